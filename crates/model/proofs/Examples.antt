@@ -1,0 +1,206 @@
+-- The starred examples A to I of document 01, proved together as one table over the definitions, and the published DIMACS samples beside them.
+-- Assumes nothing.
+use Prim.Native.Nat.{ℕ, _-_}
+use Prim.Native.Char.{code}
+use Prim.Native.String.{String, [] as ε, _∷_ as _◁_}
+use mathlib.Core.Bool.{Bool, true, false, not, _&&_}
+use mathlib.Core.List.{List, [], _∷_, _++_}
+use mathlib.Core.Option.{Option, none, some}
+use lib.Dec.{T, eqb}
+use lib.ListN.{length, replicate}
+use Rattle.model.specs.declared.Literal.{Literal}
+use Rattle.model.specs.declared.Literal.the-variants.{Pos, Neg}
+use Rattle.model.specs.declared.Group.{Group}
+use Rattle.model.specs.declared.Model.{Model}
+use Rattle.model.specs.declared.Closed.{Closed}
+use Rattle.model.specs.Lists.{every, pairwise, range}
+use Rattle.model.specs.Model.{tableOf, inRange}
+use Rattle.model.specs.Sheet.{readSheet}
+use Rattle.model.specs.Propagate.{propagated, sameTable, isFixpoint}
+use Rattle.model.specs.Totalizer.{treeClauseCount, treeOutputCount}
+use Rattle.model.specs.Cnf.{variableCount, clauses}
+use Rattle.model.specs.Text.{headerText, blockText, listing, blockRefusal}
+use Rattle.model.specs.Dimacs.{Formula, readDimacs}
+use Rattle.model.specs.Assignment.{lineRead, valuesAfter}
+use Rattle.model.specs.Close.{closed}
+use Rattle.model.specs.Solution.{solutions}
+use Rattle.model.specs.Demand.{freshReading, isCandidate}
+use Rattle.model.specs.Defs.{defs}
+
+-- ---- how an example is written and compared
+
+bytes : String → List ℕ
+bytes ε = []
+bytes (c ◁ s) = code c ∷ bytes s
+
+same : List ℕ → List ℕ → Bool
+same a b = pairwise eqb a b
+
+sameLiteral : Literal → Literal → Bool
+sameLiteral (Pos a) (Pos b) = eqb a b
+sameLiteral (Pos a) (Neg b) = false
+sameLiteral (Neg a) (Pos b) = false
+sameLiteral (Neg a) (Neg b) = eqb a b
+
+sameClauses : List (List Literal) → List (List Literal) → Bool
+sameClauses a b = pairwise (pairwise sameLiteral) a b
+
+-- a text reads as V, C and these clauses
+reads : List ℕ → ℕ → ℕ → List (List Literal) → Bool
+reads text v c cs = is (readDimacs text)
+  where
+    is : Option Formula → Bool
+    is none = false
+    is (some f) = eqb (f .variables) v && eqb (f .clauseCount) c && sameClauses (f .clauses) cs
+
+-- the model of a sheet, and its settled model
+modelOf : String → Model
+modelOf s = readSheet (bytes s) .model
+
+settled : String → Model
+settled s = propagated (modelOf s) .model
+
+-- an accepted sheet that settles in p passes, and its settled table is a fixpoint and a candidate of demand 3
+settlesIn : ℕ → String → Bool
+settlesIn p s =
+    let r = readSheet (bytes s) in
+    let a = propagated (r .model) in
+    eqb (r .refusal) 0 && eqb (r .line) 0 && eqb (a .refusal) 0 && eqb (a .passes) p
+    && isFixpoint (a .model) && isCandidate (r .model) (tableOf (a .model))
+
+isRefused : ℕ → String → Bool
+isRefused r s = let a = propagated (modelOf s) in eqb (a .refusal) r && eqb (a .passes) 0
+
+-- a solver line read onto fresh values, then closing
+closing : Model → String → Closed
+closing m s =
+    let values : List ℕ = replicate (variableCount (tableOf m)) 0 in
+    closed m (lineRead freshReading (bytes s) values .reading) (valuesAfter freshReading (bytes s) values)
+
+closesAs : Model → String → ℕ → List ℕ → Bool
+closesAs m s r groups =
+    let c = closing m s in
+    eqb (c .refusal) r && same (c .groups) (groups ++ replicate (256 - length groups) 0)
+
+-- ---- A: the sheet, 2 passes, and the listing of ten clauses byte for byte
+
+sheetA : String
+sheetA = "   1   3   2   1\n   2   1   1   1   1   1   1\n   2   2   0   3   1   1   0\n   3   2   1   2\n"
+
+listingA : String
+listingA = "p cnf 6 10\n1 2 -5 0\n-2 5 0\n1 -6 0\n-1 5 0\n2 -6 0\n-1 -2 6 0\n5 0\n-6 0\n-1 3 0\n-2 4 0\n"
+
+clausesA : List (List Literal)
+clausesA =
+    (Pos 1 ∷ Pos 2 ∷ Neg 5 ∷ [])
+    ∷ (Neg 2 ∷ Pos 5 ∷ [])
+    ∷ (Pos 1 ∷ Neg 6 ∷ [])
+    ∷ (Neg 1 ∷ Pos 5 ∷ [])
+    ∷ (Pos 2 ∷ Neg 6 ∷ [])
+    ∷ (Neg 1 ∷ Neg 2 ∷ Pos 6 ∷ [])
+    ∷ (Pos 5 ∷ [])
+    ∷ (Neg 6 ∷ [])
+    ∷ (Neg 1 ∷ Pos 3 ∷ [])
+    ∷ (Neg 2 ∷ Pos 4 ∷ [])
+    ∷ []
+
+exampleA : Bool
+exampleA =
+    let m = settled sheetA in
+    settlesIn 2 sheetA
+    && same (listing m) (bytes listingA)
+    && every (λ b. eqb (blockRefusal m b 32768) 0) (range 0 4)
+    && reads (listing m) 6 10 clausesA
+    && sameClauses (clauses m) clausesA
+
+-- ---- B: four solutions, and one read back. C: refusal 28
+
+exampleB : Bool
+exampleB =
+    eqb (length (solutions (modelOf sheetA))) 4
+    && closesAs (settled sheetA) "v 1 -2 3 -4 5 -6 0" 0 (1 ∷ 1 ∷ [])
+
+exampleC : Bool
+exampleC = closesAs (settled sheetA) "v 1 -2 3 -4 -5 -6 0" 28 []
+
+-- ---- D: refusal 21
+
+exampleD : Bool
+exampleD = isRefused 21 "   1   2   1   0\n   2   1   2   2   1   0\n"
+
+-- ---- E: marks 2 0, limits 1 1, 2 passes, `p cnf 0 0`
+
+sheetE : String
+sheetE = "   1   2   1   0\n   2   1   0   1   2   1\n"
+
+exampleE : Bool
+exampleE =
+    settlesIn 2 sheetE
+    && sameTable (tableOf (settled sheetE)) (record { fixed = 1; possible = 1; low = 1; high = 1 } ∷ [])
+    && same (listing (settled sheetE)) (bytes "p cnf 0 0\n")
+
+-- ---- F: settles in 2 passes, `p cnf 12 30`, no solution
+
+sheetF : String
+sheetF = "   1   2   6   3\n   2   1   1   1   1   1\n   2   2   1   1   1   1\n   2   3   1   1   1   1\n   2   4   0   0   1   1\n   2   5   0   0   1   1\n   2   6   0   0   1   1\n   3   3   4   1   2\n   3   3   5   1   3\n   3   3   6   2   3\n"
+
+exampleF : Bool
+exampleF =
+    settlesIn 2 sheetF
+    && same (headerText (settled sheetF)) (bytes "p cnf 12 30\n")
+    && eqb (length (clauses (settled sheetF))) 30
+    && eqb (length (solutions (modelOf sheetF))) 0
+
+-- ---- G and H: T and A
+
+exampleG : Bool
+exampleG = eqb (treeClauseCount 3) 16 && eqb (treeOutputCount 3) 5
+
+exampleH : Bool
+exampleH = eqb (treeClauseCount 32) 1312 && eqb (treeOutputCount 32) 160
+
+-- ---- I: 4 passes, 3 with the lines exchanged, the same table
+
+sheetI : String
+sheetI = "   1   1   3   2\n   2   1   0   1   1\n   2   2   0   1   1\n   2   3   0   1   0\n   3   2   1   2\n   3   2   2   3\n"
+
+sheetI-exchanged : String
+sheetI-exchanged = "   1   1   3   2\n   2   1   0   1   1\n   2   2   0   1   1\n   2   3   0   1   0\n   3   2   2   3\n   3   2   1   2\n"
+
+exampleI : Bool
+exampleI =
+    settlesIn 4 sheetI && settlesIn 3 sheetI-exchanged
+    && sameTable (tableOf (settled sheetI)) (tableOf (settled sheetI-exchanged))
+
+-- ---- the table
+
+pub starredTable : Bool
+starredTable = every (λ b. b) (exampleA ∷ exampleB ∷ exampleC ∷ exampleD ∷ exampleE ∷ exampleF ∷ exampleG ∷ exampleH ∷ exampleI ∷ [])
+
+pub starred : T starredTable
+unfolding defs bytes same sameLiteral sameClauses reads modelOf settled settlesIn isRefused closing closesAs sheetA listingA clausesA exampleA exampleB exampleC exampleD sheetE exampleE sheetF exampleF exampleG exampleH sheetI sheetI-exchanged exampleI starredTable
+starred = tt
+
+-- ---- the three published DIMACS samples, as the DIMACS reader reads them
+
+dimacs1993 : Bool
+dimacs1993 =
+    reads (bytes "c Example CNF format file\nc\np cnf 4 3\n1 3 -4 0\n4 0 2\n-3 0\n") 4 3
+    ((Pos 1 ∷ Pos 3 ∷ Neg 4 ∷ []) ∷ (Pos 4 ∷ []) ∷ (Pos 2 ∷ Neg 3 ∷ []) ∷ [])
+
+simple : Bool
+simple =
+    reads (bytes "c  simple_v3_c2.cnf\nc\np cnf 3 2\n1 -3 0\n2 3 -1 0\n") 3 2
+    ((Pos 1 ∷ Neg 3 ∷ []) ∷ (Pos 2 ∷ Pos 3 ∷ Neg 1 ∷ []) ∷ [])
+
+competition : Bool
+competition =
+    reads (bytes "c\nc start with comments\nc\nc\np cnf 5 3\n1 -5 4 0\n-1 5 3 4 0\n-3 -4 0\n") 5 3
+    ((Pos 1 ∷ Neg 5 ∷ Pos 4 ∷ []) ∷ (Neg 1 ∷ Pos 5 ∷ Pos 3 ∷ Pos 4 ∷ []) ∷ (Neg 3 ∷ Neg 4 ∷ []) ∷ [])
+
+pub sampleTable : Bool
+sampleTable = dimacs1993 && simple && competition
+
+pub samples : T sampleTable
+unfolding defs bytes sameLiteral sameClauses reads dimacs1993 simple competition sampleTable
+samples = tt

@@ -1,0 +1,135 @@
+-- Laws of the definitions' lists: tests, ranges, sums, places. Assumes nothing.
+use mathlib.Core.Path.{_≡_, refl, sym, ap, ap₂, _∙_, subst}
+use mathlib.Core.Logic.{_↔_}
+use Prim.Native.Nat.{ℕ, zero, suc, _+_, _≤_, _<_}
+use native.Mathlib.Nat.{add-zero, add-suc, add-assoc}
+use native.Mathlib.Omega.{arith}
+use native.Mathlib.Decide.{decLt, ℕ-discrete}
+use mathlib.Core.Bool.{Bool, true, false, not, _&&_, _||_}
+use mathlib.Core.List.{List, [], _∷_, _++_, map, append-assoc}
+use lib.Dec.{T}
+use lib.ListN.{length, getD, set, take, drop, length-append, length-take}
+use Rattle.model.specs.Lists.{every, any, each, total, range, onPlace}
+
+-- ---- tests as facts
+
+pub T-true : (b : Bool) → T b → b ≡ true
+T-true true t = refl
+T-true false t = absurd t
+
+pub T-false : (b : Bool) → T (not b) → b ≡ false
+T-false true t = absurd t
+T-false false t = refl
+
+pub true-T : (b : Bool) → b ≡ true → T b
+true-T b e = subst T (sym e) tt
+
+pub and-left : (a b : Bool) → T (a && b) → T a
+and-left true b t = tt
+and-left false b t = t
+
+pub and-right : (a b : Bool) → T (a && b) → T b
+and-right true b t = t
+and-right false b t = absurd t
+
+pub and-both : (a b : Bool) → T a → T b → T (a && b)
+and-both true b s t = t
+and-both false b s t = s
+
+pub T-ext : (a b : Bool) → (T a → T b) → (T b → T a) → a ≡ b
+T-ext true true f g = refl
+T-ext true false f g = absurd (f tt)
+T-ext false true f g = absurd (g tt)
+T-ext false false f g = refl
+
+pub and-assoc : (a b c : Bool) → (a && b && c) ≡ (a && (b && c))
+and-assoc true b c = refl
+and-assoc false b c = refl
+
+pub or-assoc : (a b c : Bool) → (a || b || c) ≡ (a || (b || c))
+or-assoc true b c = refl
+or-assoc false b c = refl
+
+-- ---- joined lists
+
+module _ {A : Type 0} where
+  pub every-append : (p : A → Bool) (xs ys : List A) → every p (xs ++ ys) ≡ (every p xs && every p ys)
+  every-append p [] ys = refl
+  every-append p (x ∷ xs) ys = ap (λ b. p x && b) (every-append p xs ys) ∙ sym (and-assoc (p x) (every p xs) (every p ys))
+
+  pub any-append : (p : A → Bool) (xs ys : List A) → any p (xs ++ ys) ≡ (any p xs || any p ys)
+  any-append p [] ys = refl
+  any-append p (x ∷ xs) ys = ap (λ b. p x || b) (any-append p xs ys) ∙ sym (or-assoc (p x) (any p xs) (any p ys))
+
+  pub total-append : (f : A → ℕ) (xs ys : List A) → total f (xs ++ ys) ≡ total f xs + total f ys
+  total-append f [] ys = omega arith
+  total-append f (x ∷ xs) ys = ap (λ (n : ℕ). f x + n) (total-append f xs ys) ∙ sym (add-assoc (f x) (total f xs) (total f ys))
+
+  pub every-getD : (p : A → Bool) (xs : List A) (d : A) (i : ℕ) → T (every p xs) → i < length xs → T (p (getD xs i d))
+  every-getD p [] d i t h = absurd (omega arith)
+  every-getD p (x ∷ xs) d zero t h = and-left (p x) (every p xs) t
+  every-getD p (x ∷ xs) d (suc i) t h = every-getD p xs d i (and-right (p x) (every p xs) t) (omega arith)
+
+module _ {A B : Type 0} where
+  pub each-append : (f : A → List B) (xs ys : List A) → each f (xs ++ ys) ≡ each f xs ++ each f ys
+  each-append f [] ys = refl
+  each-append f (x ∷ xs) ys = ap (λ (l : List B). f x ++ l) (each-append f xs ys) ∙ sym (append-assoc (f x) (each f xs) (each f ys))
+
+  pub every-each : (p : B → Bool) (f : A → List B) (xs : List A) → every p (each f xs) ≡ every (λ x. every p (f x)) xs
+  every-each p f [] = refl
+  every-each p f (x ∷ xs) = every-append p (f x) (each f xs) ∙ ap (λ b. every p (f x) && b) (every-each p f xs)
+
+  pub length-each : (f : A → List B) (xs : List A) → length (each f xs) ≡ total (λ x. length (f x)) xs
+  length-each f [] = refl
+  length-each f (x ∷ xs) = length-append (f x) (each f xs) ∙ ap (λ (n : ℕ). length (f x) + n) (length-each f xs)
+
+-- what is made of what is made
+pub each-each : {A B C : Type 0} (g : B → List C) (f : A → List B) (xs : List A) → each g (each f xs) ≡ each (λ x. each g (f x)) xs
+each-each g f [] = refl
+each-each g f (x ∷ xs) = each-append g (f x) (each f xs) ∙ ap (λ l. each g (f x) ++ l) (each-each g f xs)
+
+-- ---- ranges
+
+pub range-length : (a k : ℕ) → length (range a k) ≡ k
+range-length a zero = refl
+range-length a (suc k) = ap suc (range-length (suc a) k)
+
+pub range-append : (a j k : ℕ) → range a (j + k) ≡ range a j ++ range (a + j) k
+range-append a zero k = rw (native.Mathlib.Nat.zero-add k, add-zero a)
+range-append a (suc j) k =
+    rw (native.Mathlib.Nat.suc-add j k, range-append (suc a) j k, native.Mathlib.Nat.suc-add a j, add-suc a j)
+
+pub range-last : (a k : ℕ) → range a (suc k) ≡ range a k ++ ((a + k) ∷ [])
+range-last a zero = rw (add-zero a)
+range-last a (suc k) = ap (λ (l : List ℕ). a ∷ l) (range-last (suc a) k ∙ rw (native.Mathlib.Nat.suc-add a k, add-suc a k))
+
+pub every-range : (p : ℕ → Bool) (a k : ℕ) → T (every p (range a k)) → (i : ℕ) → a ≤ i → i < a + k → T (p i)
+every-range p a zero t i l h = absurd (omega arith)
+every-range p a (suc k) t i l h = go (ℕ-discrete i a) (λ h₁ h₂. every-range p (suc a) k (and-right (p a) (every p (range (suc a) k)) t) i h₁ h₂)
+  where
+    go : Dec (i ≡ a) → (suc a ≤ i → i < suc a + k → T (p i)) → T (p i)
+    go (yes e) ih = subst (λ (n : ℕ). T (p n)) (sym e) (and-left (p a) (every p (range (suc a) k)) t)
+    go (no f) ih = ih (omega arith) (omega arith)
+
+pub range-every : (p : ℕ → Bool) (a k : ℕ) → ((i : ℕ) → a ≤ i → i < a + k → T (p i)) → T (every p (range a k))
+range-every p a zero h = tt
+range-every p a (suc k) h =
+    and-both (p a) (every p (range (suc a) k)) (h a (omega arith) (omega arith)) (range-every p (suc a) k (λ i l u. h i (omega arith) (omega arith)))
+
+-- ---- a place
+
+pub place-set : {A : Type 0} (i : ℕ) (r : A → A) (t : List A) (d : A) → onPlace i r t ≡ set t i (r (getD t i d))
+place-set i r [] d = refl
+place-set zero r (x ∷ xs) d = refl
+place-set (suc i) r (x ∷ xs) d = ap {B = List _} (λ l. x ∷ l) (place-set i r xs d)
+
+pub place-length : {A : Type 0} (i : ℕ) (r : A → A) (t : List A) → length (onPlace i r t) ≡ length t
+place-length i r [] = refl
+place-length zero r (x ∷ xs) = refl
+place-length (suc i) r (x ∷ xs) = ap suc (place-length i r xs)
+
+-- a place in the first part of a list
+pub place-append : {A : Type 0} (i : ℕ) (r : A → A) (t u : List A) → i < length t → onPlace i r (t ++ u) ≡ onPlace i r t ++ u
+place-append i r [] u h = absurd (omega arith)
+place-append zero r (x ∷ xs) u h = refl
+place-append (suc i) r (x ∷ xs) u h = ap {B = List _} (λ l. x ∷ l) (place-append i r xs u (omega arith))

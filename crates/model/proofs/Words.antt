@@ -1,0 +1,247 @@
+-- Laws of words as sets, over every width: bits of each operation, inclusion and its orders, the number of ones. Bits are the numbers 0 and 1, so that
+-- omega reasons about them. Assumes nothing.
+use mathlib.Core.Path.{_≡_, refl, sym, ap, _∙_, subst}
+use Prim.Native.Nat.{ℕ, zero, suc, _+_, _-_, _*_, _/_, _%_, _^_, _≤_, _<_, min, max}
+use native.Mathlib.Nat.{le-refl, le-trans, le-antisymm, div-add-mod', div-one, div-div-eq-div-mul, pow-zero, pow-suc, pow-succ'}
+use native.Mathlib.Omega.{arith}
+use native.Mathlib.Decide.{decLt}
+use mathlib.Core.Bool.{Bool, true, false}
+use borrow.Author.Tests.{eqb-true, eqb-false}
+use lib.Dec.{T, eqb, eqb→eq, eqb-refl}
+use lib.Arith.{bin-ind, digits-div, digits-mod}
+use lib.Bits.{bitAnd, bitOr, bitXor, differ, and-step, or-step, xor-step}
+use lib.Count.{ones, ones-step, ones-le}
+use lib.Pow.{pow-pos}
+use Rattle.model.specs.Words.{full, less, sizeIn, size, inside, bit, has}
+
+-- ---- a bit
+
+pub bit-first : (w : ℕ) → bit 0 w ≡ w % 2
+unfolding bit
+bit-first w = ap (λ (x : ℕ). x % 2) (div-one w)
+
+pub bit-next : (e w : ℕ) → bit (suc e) w ≡ bit e (w / 2)
+unfolding bit
+bit-next e w = ap (λ (x : ℕ). x % 2) (ap (λ (x : ℕ). w / x) (pow-succ' 2 e) ∙ sym (div-div-eq-div-mul w 2 (2 ^ e)))
+
+pub bit-le : (e w : ℕ) → bit e w ≤ 1
+unfolding bit
+bit-le e w = omega arith
+
+pub bit-zero : (e : ℕ) → bit e 0 ≡ 0
+bit-zero zero = bit-first 0
+bit-zero (suc e) = bit-next e 0 ∙ bit-zero e
+
+-- past its length a word has no members
+pub bit-past : (k e w : ℕ) → w < 2 ^ k → k ≤ e → bit e w ≡ 0
+bit-past zero e w h l = ap (bit e) (omega arith) ∙ bit-zero e
+bit-past (suc k) zero w h l = omega arith
+bit-past (suc k) (suc e) w h l = bit-next e w ∙ bit-past k e (w / 2) (omega arith) (omega arith)
+
+-- ---- an operation that works digit by digit works bit by bit
+
+module _ (op f : ℕ → ℕ → ℕ) (step : (a b : ℕ) → op a b ≡ op (a / 2) (b / 2) * 2 + f (a % 2) (b % 2))
+    (small : (x y : ℕ) → x ≤ 1 → y ≤ 1 → f x y ≤ 1) where
+  digit : (a b : ℕ) → f (a % 2) (b % 2) < 2
+  digit a b = let h = small (a % 2) (b % 2) (omega arith) (omega arith) in omega arith
+
+  op-bit : (e a b : ℕ) → bit e (op a b) ≡ f (bit e a) (bit e b)
+  op-bit zero a b =
+      bit-first (op a b)
+      ∙ ap (λ (x : ℕ). x % 2) (step a b)
+      ∙ digits-mod (op (a / 2) (b / 2)) (digit a b)
+      ∙ sym (rw (bit-first a, bit-first b))
+  op-bit (suc e) a b =
+      bit-next e (op a b)
+      ∙ ap (λ (x : ℕ). bit e (x / 2)) (step a b)
+      ∙ ap (bit e) (digits-div (op (a / 2) (b / 2)) (digit a b))
+      ∙ op-bit e (a / 2) (b / 2)
+      ∙ sym (rw (bit-next e a, bit-next e b))
+
+pub bit-and : (e a b : ℕ) → bit e (bitAnd a b) ≡ min (bit e a) (bit e b)
+bit-and = op-bit bitAnd min and-step (λ x y hx hy. omega arith)
+
+pub bit-or : (e a b : ℕ) → bit e (bitOr a b) ≡ max (bit e a) (bit e b)
+bit-or = op-bit bitOr max or-step (λ x y hx hy. omega arith)
+
+differ-is : (x y : ℕ) → differ x y ≡ (x - y) + (y - x)
+differ-is zero y = omega arith
+differ-is (suc x) zero = omega arith
+differ-is (suc x) (suc y) = omega (arith, differ-is x y)
+
+bit-xor : (e a b : ℕ) → bit e (bitXor a b) ≡ differ (bit e a) (bit e b)
+bit-xor = op-bit bitXor differ xor-step (λ x y hx hy. omega (arith, differ-is x y))
+
+pub bit-less : (e a b : ℕ) → bit e (less a b) ≡ bit e a - bit e b
+unfolding less
+bit-less e a b =
+    omega (arith, bit-xor e a (bitAnd a b), bit-and e a b, differ-is (bit e a) (bit e (bitAnd a b)), bit-le e a, bit-le e b)
+
+-- every bit below n is set in `full n`, and no other
+pub bit-full : (n e : ℕ) → e < n → bit e (full n) ≡ 1
+unfolding full
+bit-full zero e h = omega arith
+bit-full (suc n) zero h = bit-first (2 ^ suc n - 1) ∙ omega (arith, pow-pos n)
+bit-full (suc n) (suc e) h =
+    bit-next e (2 ^ suc n - 1) ∙ ap (bit e) (omega (arith, pow-pos n)) ∙ bit-full n e (omega arith)
+
+pub full-lt : (n : ℕ) → full n < 2 ^ n
+unfolding full
+full-lt n = omega (arith, pow-pos n)
+
+-- what the code's `!b` gives at k digits, and `a & !b`
+bit-not : (k e b : ℕ) → b < 2 ^ k → e < k → bit e (2 ^ k - 1 - b) ≡ 1 - bit e b
+bit-not zero e b h l = omega arith
+bit-not (suc k) zero b h l = rw (bit-first (2 ^ suc k - 1 - b), bit-first b) (omega (arith, pow-pos k))
+bit-not (suc k) (suc e) b h l =
+    rw (bit-next e (2 ^ suc k - 1 - b), bit-next e b)
+    (ap (bit e) (omega (arith, pow-pos k)) ∙ bit-not k e (b / 2) (omega arith) (omega arith))
+
+-- ---- words are equal when their bits are: no bound is needed
+
+pub bit-ext : (a b : ℕ) → ((e : ℕ) → bit e a ≡ bit e b) → a ≡ b
+bit-ext a =
+    bin-ind (λ (n : ℕ). (b : ℕ) → ((e : ℕ) → bit e n ≡ bit e b) → n ≡ b)
+    (λ b h. bin-ind (λ (m : ℕ). ((e : ℕ) → bit e 0 ≡ bit e m) → 0 ≡ m) (λ h₁. refl)
+    (λ m ih h₁. omega (arith, first 0 m (h₁ 0), ih (λ e. next e 0 m (h₁ (suc e))), div-add-mod' m 2)) b h)
+    (λ n ih b h. omega (arith, first n b (h 0), ih (b / 2) (λ e. next e n b (h (suc e))), div-add-mod' n 2, div-add-mod' b 2)) a
+  where
+    first : (a b : ℕ) → bit 0 a ≡ bit 0 b → a % 2 ≡ b % 2
+    first a b h = sym (bit-first a) ∙ h ∙ bit-first b
+
+    next : (e a b : ℕ) → bit (suc e) a ≡ bit (suc e) b → bit e (a / 2) ≡ bit e (b / 2)
+    next e a b h = sym (bit-next e a) ∙ h ∙ bit-next e b
+
+pub and-not : (k a b : ℕ) → a < 2 ^ k → b < 2 ^ k → bitAnd a (2 ^ k - 1 - b) ≡ less a b
+and-not k a b ha hb = bit-ext (bitAnd a (2 ^ k - 1 - b)) (less a b) (λ e. go e (decLt e k))
+  where
+    go : (e : ℕ) → Dec (e < k) → bit e (bitAnd a (2 ^ k - 1 - b)) ≡ bit e (less a b)
+    go e (yes l) = omega (arith, bit-and e a (2 ^ k - 1 - b), bit-less e a b, bit-not k e b hb l, bit-le e a, bit-le e b)
+    go e (no f) = omega (arith, bit-and e a (2 ^ k - 1 - b), bit-less e a b, bit-past k e a ha (omega arith))
+
+-- ---- inclusion, bit by bit
+
+pub record Sub (a b : ℕ) : Type 0 where
+  pub at : (e : ℕ) → bit e a ≤ bit e b
+
+pub sub-refl : (a : ℕ) → Sub a a
+sub-refl a = record { at = λ e. le-refl (bit e a) }
+
+pub sub-trans : {a b c : ℕ} → Sub a b → Sub b c → Sub a c
+sub-trans p q = record { at = λ e. le-trans (p .at e) (q .at e) }
+
+pub sub-antisym : {a b : ℕ} → Sub a b → Sub b a → a ≡ b
+sub-antisym {a} {b} p q = bit-ext a b (λ e. le-antisymm (p .at e) (q .at e))
+
+pub sub-or-l : (a b : ℕ) → Sub a (bitOr a b)
+sub-or-l a b = record { at = λ e. omega (arith, bit-or e a b) }
+
+pub sub-or-r : (a b : ℕ) → Sub b (bitOr a b)
+sub-or-r a b = record { at = λ e. omega (arith, bit-or e a b) }
+
+pub sub-or : {a b c : ℕ} → Sub a c → Sub b c → Sub (bitOr a b) c
+sub-or {a} {b} p q = record { at = λ e. omega (arith, bit-or e a b, p .at e, q .at e) }
+
+pub sub-and-l : (a b : ℕ) → Sub (bitAnd a b) a
+sub-and-l a b = record { at = λ e. omega (arith, bit-and e a b) }
+
+pub sub-and-r : (a b : ℕ) → Sub (bitAnd a b) b
+sub-and-r a b = record { at = λ e. omega (arith, bit-and e a b) }
+
+pub sub-and : {a b c : ℕ} → Sub c a → Sub c b → Sub c (bitAnd a b)
+sub-and {a} {b} p q = record { at = λ e. omega (arith, bit-and e a b, p .at e, q .at e) }
+
+pub sub-less : (a b : ℕ) → Sub (less a b) a
+sub-less a b = record { at = λ e. omega (arith, bit-less e a b) }
+
+-- the test `inside` is inclusion
+pub inside-sub : (a b : ℕ) → T (inside a b) → Sub a b
+unfolding inside
+inside-sub a b t = subst (λ (x : ℕ). Sub x b) (eqb→eq (bitAnd a b) a t) (sub-and-r a b)
+
+pub sub-inside : (a b : ℕ) → Sub a b → T (inside a b)
+unfolding inside
+sub-inside a b s = rw (sub-antisym (sub-and-l a b) (sub-and (sub-refl a) s)) (eqb-refl a)
+
+-- a set within one of few digits has few digits
+pub sub-le : {a b : ℕ} → Sub a b → a ≤ b
+sub-le {a} {b} s = subst (λ (x : ℕ). x ≤ b) (eqb→eq (bitAnd a b) a (unfold inside in sub-inside a b s)) (lib.Bits.and-le-r a b)
+
+-- ---- the number of ones
+
+size-in : (d w : ℕ) → w ≤ d → sizeIn d w ≡ ones w
+unfolding sizeIn ones
+size-in zero w h = let z : w ≡ 0 = omega arith in rw z
+size-in (suc d) w h = go (eqb w 0) refl (size-in d (w / 2))
+  where
+    go : (b : Bool) → eqb w 0 ≡ b → (w / 2 ≤ d → sizeIn d (w / 2) ≡ ones (w / 2)) → sizeIn (suc d) w ≡ ones w
+    go true e ih = rw (e, sizeIn) (ap ones (sym (eqb-true w 0 e)))
+    go false e ih = rw (e, sizeIn) (ap (λ (x : ℕ). w % 2 + x) (ih (omega (arith, eqb-false w 0 e))) ∙ sym (ones-step w))
+
+pub size-ones : (w : ℕ) → size w ≡ ones w
+unfolding size
+size-ones w = size-in w w (le-refl w)
+
+pub size-step : (w : ℕ) → size w ≡ w % 2 + size (w / 2)
+size-step w = size-ones w ∙ ones-step w ∙ ap (λ (x : ℕ). w % 2 + x) (sym (size-ones (w / 2)))
+
+pub size-zero : size 0 ≡ 0
+unfolding size sizeIn
+size-zero = refl
+
+pub size-le : (n w : ℕ) → w < 2 ^ n → size w ≤ n
+size-le n w h = rw (size-ones w) (ones-le n w h)
+
+low : {a b : ℕ} → Sub a b → a % 2 ≤ b % 2
+low {a} {b} s = omega (arith, s .at 0, bit-first a, bit-first b)
+
+high : {a b : ℕ} → Sub a b → Sub (a / 2) (b / 2)
+high {a} {b} s = record { at = λ e. omega (arith, s .at (suc e), bit-next e a, bit-next e b) }
+
+pub size-mono : {a b : ℕ} → Sub a b → size a ≤ size b
+size-mono {a} {b} s =
+    bin-ind (λ (n : ℕ). (b : ℕ) → Sub n b → size n ≤ size b)
+    (λ b h. omega (arith, size-zero))
+    (λ n ih b h. omega (arith, size-step n, size-step b, low h, ih (b / 2) (high h))) a b s
+
+-- one set in another with as many members is the same set
+pub size-eq : {a b : ℕ} → Sub a b → size b ≤ size a → a ≡ b
+size-eq {a} {b} s l =
+    bin-ind (λ (n : ℕ). (b : ℕ) → Sub n b → size b ≤ size n → n ≡ b) base
+    (λ n ih b h c.
+    let m = size-mono (high h) in
+    omega (
+      arith,
+      low h,
+      size-step n,
+      size-step b,
+      div-add-mod' n 2,
+      div-add-mod' b 2,
+      ih (b / 2) (high h) (omega (arith, size-step n, size-step b, low h)),
+    )) a b s l
+  where
+    base : (b : ℕ) → Sub 0 b → size b ≤ size 0 → 0 ≡ b
+    base = bin-ind (λ (b : ℕ). Sub 0 b → size b ≤ size 0 → 0 ≡ b) (λ h c. refl)
+        (λ n ih h c. omega (arith, size-zero, size-step n, div-add-mod' n 2, ih (high h) (omega (arith, size-step n))))
+
+-- a set in two parts: those of a in b, and those not
+pub size-less : (a b : ℕ) → Sub b a → size (less a b) + size b ≡ size a
+size-less a b s = size-apart (less a b) b a
+    (λ e. omega (arith, bit-less e a b, s .at e, bit-le e a))
+  where
+    size-apart : (x y z : ℕ) → ((e : ℕ) → bit e x + bit e y ≡ bit e z) → size x + size y ≡ size z
+    size-apart x y z = bin-ind (λ (z : ℕ). (x y : ℕ) → ((e : ℕ) → bit e x + bit e y ≡ bit e z) → size x + size y ≡ size z)
+        (λ x y h. let p : x ≡ 0 = bit-ext x 0 (λ e. omega (arith, h e, bit-zero e)) in
+        let q : y ≡ 0 = bit-ext y 0 (λ e. omega (arith, h e, bit-zero e)) in
+        rw (p, q) (omega (arith, size-zero)))
+        (λ z ih x y h. omega (
+          arith,
+          size-step x,
+          size-step y,
+          size-step z,
+          h 0,
+          bit-first x,
+          bit-first y,
+          bit-first z,
+          ih (x / 2) (y / 2) (λ e. omega (arith, h (suc e), bit-next e x, bit-next e y, bit-next e z)),
+        )) z x y

@@ -1,0 +1,103 @@
+-- The clauses of the listing, block by block: numbering, totalizers, constraints, V and C.
+use Prim.Native.Nat.{ℕ, zero, suc, _+_, _-_, _%_, _^_}
+use mathlib.Core.Bool.{Bool, cond, _||_}
+use mathlib.Core.List.{List, [], _++_, map}
+use lib.Dec.{leb, ltb}
+use lib.ListN.{length, getD, take}
+use Rattle.model.specs.declared.Literal.{Literal}
+use Rattle.model.specs.declared.Literal.the-variants.{Pos, Neg}
+use Rattle.model.specs.declared.Term.{Term}
+use Rattle.model.specs.declared.Term.the-variants.{Holds, Fails, Open}
+use Rattle.model.specs.declared.Group.{Group}
+use Rattle.model.specs.declared.Constraint.{Constraint}
+use Rattle.model.specs.declared.Model.{Model}
+use Rattle.model.specs.Lists.{each, total, range}
+use Rattle.model.specs.Words.{less, size, has}
+use Rattle.model.specs.Clauses.{clausesOf}
+use Rattle.model.specs.Model.{zeroConstraint, groupAt, tableOf, constraintsOf}
+use Rattle.model.specs.Totalizer.{oppositeTerm, keep, totalizerClauses, treeClauseCount, treeOutputCount}
+
+-- ---- "A counter exists for a group with m open entrants, L = low less the fixed, U = high less the fixed, exactly when L > 0 or U < m."
+
+unfoldable pub openOf : Group → ℕ
+openOf g = less (g .possible) (g .fixed)
+
+-- m, L and U
+unfoldable pub openCount : Group → ℕ
+openCount g = size (openOf g)
+
+unfoldable pub atLeast : Group → ℕ
+atLeast g = g .low - size (g .fixed)
+
+unfoldable pub atMost : Group → ℕ
+atMost g = g .high - size (g .fixed)
+
+unfoldable pub counted : Group → Bool
+counted g = ltb 0 (atLeast g) || ltb (atMost g) (openCount g)
+
+unfoldable pub outputsOf : Group → ℕ
+outputsOf g = cond (counted g) (treeOutputCount (openCount g)) 0
+
+-- ---- "Variables: for groups 1..s, entrants 1..n with mark 1, numbered on from 1. Then counters, groups in order."
+
+-- the first variable of group g, and the first output of its totalizer
+unfoldable pub firstVariable : List Group → ℕ → ℕ
+firstVariable t g = 1 + total openCount (take (g - 1) t)
+
+unfoldable pub firstOutput : List Group → ℕ → ℕ
+firstOutput t g = 1 + total openCount t + total outputsOf (take (g - 1) t)
+
+-- the variable of the open bit e of group g
+unfoldable pub variableOf : List Group → ℕ → ℕ → ℕ
+variableOf t g e = firstVariable t g + size (openOf (groupAt t g) % 2 ^ e)
+
+-- "V is the number of open marks plus A(m) per counter."
+unfoldable pub variableCount : List Group → ℕ
+variableCount t = total openCount t + total outputsOf t
+
+-- ---- the clauses of a group's totalizer, "possibly empty"
+
+unfoldable pub groupClauses : List Group → ℕ → List (List Literal)
+groupClauses t g =
+    let r = groupAt t g in
+    cond (counted r) (totalizerClauses (openCount r) (firstVariable t g) (firstOutput t g) (atLeast r) (atMost r)) []
+
+-- ---- the clauses of a constraint, "by entrant, then clause"
+
+-- "in group g" for bit e: known where it is fixed or not possible
+unfoldable pub membership : List Group → ℕ → ℕ → Term
+membership t e g =
+    cond (has (groupAt t g .fixed) e) Holds
+    (cond (has (groupAt t g .possible) e) (Open (Pos (variableOf t g e))) Fails)
+
+unfoldable pub termOf : List Group → ℕ → Literal → Term
+termOf t e (Pos g) = membership t e g
+termOf t e (Neg g) = oppositeTerm (membership t e g)
+
+unfoldable pub clausesAt : List Group → Constraint → ℕ → List (List Literal)
+clausesAt t c e = each (λ ls. keep (map (termOf t e) ls)) (clausesOf c)
+
+unfoldable pub constraintClauses : ℕ → List Group → Constraint → List (List Literal)
+constraintClauses n t c = each (clausesAt t c) (range 0 n)
+
+-- ---- "block g (1..s) is group g's counter ..; block s+j is line j"
+
+unfoldable pub blockClauses : Model → ℕ → List (List Literal)
+blockClauses m b =
+    let t = tableOf m in
+    let constraint = constraintClauses (m .n) t (getD (constraintsOf m) (b - m .s - 1) zeroConstraint) in
+    let group = groupClauses t b in
+    cond (leb b (m .s)) group constraint
+
+-- every clause of the listing, in order
+unfoldable pub clauses : Model → List (List Literal)
+clauses m = each (blockClauses m) (range 1 (m .s + m .c))
+
+-- "C is, per counter, T(m) + L + m - U, plus the line clauses not left out, entrants 1..n."
+unfoldable pub groupClauseCount : Group → ℕ
+groupClauseCount g = cond (counted g) (treeClauseCount (openCount g) + atLeast g + (openCount g - atMost g)) 0
+
+unfoldable pub clauseCount : Model → ℕ
+clauseCount m =
+    total groupClauseCount (tableOf m)
+    + total (λ c. length (constraintClauses (m .n) (tableOf m) c)) (constraintsOf m)

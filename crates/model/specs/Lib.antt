@@ -1,0 +1,16 @@
+pub mod Lists
+pub mod Words
+pub mod Limits
+pub mod Clauses
+pub mod Model
+pub mod Sheet
+pub mod Propagate
+pub mod Totalizer
+pub mod Cnf
+pub mod Text
+pub mod Dimacs
+pub mod Assignment
+pub mod Close
+pub mod Solution
+pub mod Demand
+pub mod Defs
