@@ -4,7 +4,7 @@ use Prim.Native.Nat.{ℕ, _-_}
 use Prim.Native.Char.{code}
 use Prim.Native.String.{String, [] as ε, _∷_ as _◁_}
 use mathlib.Core.Bool.{Bool, true, false, not, _&&_}
-use mathlib.Core.List.{List, [], _∷_, _++_}
+use mathlib.Core.List.{List, [], _∷_, _++_, map}
 use mathlib.Core.Option.{Option, none, some}
 use lib.Dec.{T, eqb}
 use lib.ListN.{length, replicate}
@@ -180,6 +180,31 @@ starredTable = every (λ b. b) (exampleA ∷ exampleB ∷ exampleC ∷ exampleD 
 pub starred : T starredTable
 unfolding defs bytes same sameLiteral sameClauses reads modelOf settled settlesIn isRefused closing closesAs sheetA listingA clausesA exampleA exampleB exampleC exampleD sheetE exampleE sheetF exampleF exampleG exampleH sheetI sheetI-exchanged exampleI starredTable
 starred = tt
+
+-- ---- the traps in the printed rules, one entrant each: the settled marks (fixed, possible) of each group
+
+settlesAs : String → List ℕ → List ℕ → Bool
+settlesAs s fixed possible =
+    same (map (λ g. g .fixed) (tableOf (settled s))) fixed && same (map (λ g. g .possible) (tableOf (settled s))) possible
+
+-- H = F less G, all open: H stays open, since only those fixed in G may go
+openDifference : Bool
+openDifference = settlesAs "   1   1   3   1\n   2   1   0   1   1\n   2   2   0   1   1\n   2   3   0   1   1\n   3   5   1   2   3\n" (0 ∷ 0 ∷ 0 ∷ []) (1 ∷ 1 ∷ 1 ∷ [])
+
+-- H = F less G: fixed in F, impossible in H, hence fixed in G
+fixedDifference : Bool
+fixedDifference = settlesAs "   1   1   3   1\n   2   1   0   1   0\n   2   2   0   1   2\n   2   3   0   1   1\n   3   5   1   2   3\n" (0 ∷ 1 ∷ 1 ∷ []) (0 ∷ 1 ∷ 1 ∷ [])
+
+-- H = F1 ∪ F2: fixed in H, impossible in F1, hence fixed in F2, which the long clause alone says
+longUnion : Bool
+longUnion = settlesAs "   1   1   3   1\n   2   1   0   1   2\n   2   2   0   1   0\n   2   3   0   1   1\n   3   6   2   1   2   3\n" (1 ∷ 0 ∷ 1 ∷ []) (1 ∷ 0 ∷ 1 ∷ [])
+
+pub trapTable : Bool
+trapTable = openDifference && fixedDifference && longUnion
+
+pub traps : T trapTable
+unfolding defs bytes same modelOf settled settlesAs openDifference fixedDifference longUnion trapTable
+traps = tt
 
 -- ---- the three published DIMACS samples, as the DIMACS reader reads them
 

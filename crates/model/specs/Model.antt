@@ -50,11 +50,11 @@ groupInRange n g =
     inside (g .fixed) (g .possible) && ltb (g .possible) (2 ^ n) && leb (g .low) (g .high) && leb (g .high) n
 
 -- code 1 to 6, "a count k (2 to 16)" of code 6, "Group numbers are 1 to s, all different in a line"
-unfoldable pub codeInRange : Constraint → Bool
-codeInRange c = between 1 6 (c .code) && (not (eqb (c .code) 6) || between 2 (limits .members - 1) (c .count))
+unfoldable pub codeInRange : ℕ → ℕ → Bool
+codeInRange code k = between 1 6 code && (not (eqb code 6) || between 2 (limits .members - 1) k)
 
 unfoldable pub constraintInRange : ℕ → Constraint → Bool
-constraintInRange s c = codeInRange c && every (between 1 s) (groupsOf c) && distinct (groupsOf c)
+constraintInRange s c = codeInRange (c .code) (c .count) && every (between 1 s) (groupsOf c) && distinct (groupsOf c)
 
 -- refusal 20 is the opposite of this
 unfoldable pub inRange : Model → Bool

@@ -150,7 +150,7 @@ constraintFrom l = record {
 unfoldable pub constraintRefusal : ℕ → List ℕ → ℕ
 constraintRefusal s l =
     stop (not (eqb (valueAt l 0) 3)) 5
-    (stop (not (codeInRange (constraintFrom l))) 6
+    (stop (not (codeInRange (valueAt l 1) (countFrom l))) 6
     (stop (not (eqb (length l / 4) (firstGroup l + groupCount l))) 6
     (stop (not (every (between 1 s) (groupsOf (constraintFrom l)))) 7
     (stop (not (distinct (groupsOf (constraintFrom l)))) 9 0))))
