@@ -1,7 +1,7 @@
 -- Laws of the definitions' lists: tests, ranges, sums, places. Assumes nothing.
 use mathlib.Core.Path.{_≡_, refl, sym, ap, ap₂, _∙_, subst}
 use mathlib.Core.Logic.{_↔_}
-use Prim.Native.Nat.{ℕ, zero, suc, _+_, _≤_, _<_, min}
+use Prim.Native.Nat.{ℕ, zero, suc, _+_, _-_, _≤_, _<_, min}
 use native.Mathlib.Nat.{add-zero, add-suc, add-assoc}
 use native.Mathlib.Omega.{arith}
 use native.Mathlib.Decide.{decLt, ℕ-discrete}
@@ -209,3 +209,21 @@ module _ (ys : List ℕ) (k i : ℕ) (inv : distinct (take k ys) ≡ distinct (d
 
   pub distinct-done : min k (length ys) ≤ i → true ≡ distinct (take k ys)
   distinct-done h = sym (inv ∙ ap distinct (drop-of-length-le (take k ys) (past-k (λ x. true) ys k i h)))
+
+-- ---- a loop that tests i, i + 1, .. below n
+
+range-next : (n i : ℕ) → i < n → range i (n - i) ≡ i ∷ range (i + 1) (n - (i + 1))
+range-next n i h = rw (add-one i, less-by-one) refl
+  where
+    less-by-one : n - i ≡ suc (n - suc i)
+    less-by-one = omega arith
+
+module _ (p : ℕ → Bool) (b : Bool) (n i : ℕ) (inv : b ≡ every p (range i (n - i))) where
+  pub range-goes : i < n → p i ≡ true → b ≡ every p (range (i + 1) (n - (i + 1)))
+  range-goes h e = inv ∙ ap (every p) (range-next n i h) ∙ rw e
+
+  pub range-stops : i < n → p i ≡ false → b ≡ false
+  range-stops h e = inv ∙ ap (every p) (range-next n i h) ∙ rw e
+
+  pub range-done : n ≤ i → b ≡ true
+  range-done h = let z : n - i ≡ 0 = omega arith in inv ∙ ap (λ (k : ℕ). every p (range i k)) z

@@ -167,13 +167,13 @@ withConstraint j l m = record {
 
 -- ---- "Then line by line, and within a line each check over all its fields before the next"; "5 kind wrong here, a line too many"
 
--- the refusal of a line after `done` lines that were read into m; 0 where there is none
-unfoldable pub lineRefusal : ℕ → Model → List ℕ → ℕ
-lineRefusal done m l =
+-- the refusal of a line after `done` lines, of which the head said n, s and c; 0 where there is none
+unfoldable pub lineRefusal : ℕ → ℕ → ℕ → ℕ → List ℕ → ℕ
+lineRefusal n s c done l =
     stop (not (eqb (formRefusal l) 0)) (formRefusal l)
     (cond (eqb done 0) (headRefusal l)
-    (cond (leb done (m .s)) (groupRefusal (m .n) done l)
-    (cond (leb done (m .s + m .c)) (constraintRefusal (m .s) l) 5)))
+    (cond (leb done s) (groupRefusal n done l)
+    (cond (leb done (s + c)) (constraintRefusal s l) 5)))
 
 -- the model with what the line says
 unfoldable pub withLine : ℕ → Model → List ℕ → Model
@@ -192,7 +192,7 @@ afterLast done m = cond (leb done (m .s + m .c)) (refusedSheet 5 (done + 1)) (re
 abbrev pub readLines : List (List ℕ) → ℕ → Model → SheetRead
 readLines [] done m = afterLast done m
 readLines (l ∷ ls) done m =
-    let r = lineRefusal done m l in
+    let r = lineRefusal (m .n) (m .s) (m .c) done l in
     let rest = readLines ls (done + 1) (withLine done m l) in
     cond (eqb r 0) rest (refusedSheet r (done + 1))
 

@@ -1,0 +1,84 @@
+-- One step each of the definitions that the reader's loops go through. Assumes nothing.
+use Prim.Native.Nat.{ℕ, zero, suc, _+_, _-_, _*_, _^_, _%_, _≤_, _<_}
+use mathlib.Core.Path.{_≡_, refl, ap, sym, _∙_}
+use mathlib.Core.Bool.{Bool, true, false, cond, _&&_}
+use mathlib.Core.List.{List, [], _∷_}
+use mathlib.Core.Option.{Option, none, some}
+use native.Mathlib.Nat.{one-mul, add-comm, pow-suc, pow-le-pow-right, lt-of-lt-of-le, two-pow-succ}
+use native.Mathlib.Numerals.{add-one}
+use native.Mathlib.Omega.{arith}
+use borrow.Author.Tests.{eq-eqb, ne-eqb, le-leb, lt-leb}
+use lib.Bits.{bitOr, or-shifted-r}
+use lib.Dec.{eqb}
+use lib.ListN.{length, take, drop, getD, length-drop, drop-of-length-le}
+use lib.Pow.{shl-exact, pow-pos}
+use lib.Seq.{take-all}
+use Rattle.model.proofs.Lists.{drop-next}
+use Rattle.model.specs.Words.{wordWhere}
+use Rattle.model.specs.Sheet.{afterSpaces, digitsAfter}
+use Rattle.sheet.specs.Line.{lineLength}
+
+-- a whole rest, as a part `&l[i..]` gives it
+pub rest : (l : List ℕ) (i : ℕ) → take (length l - i) (drop i l) ≡ drop i l
+rest l i = take-all (length l - i) (drop i l) (simp length-drop (omega arith))
+
+pub at-end : (l : List ℕ) (i : ℕ) → length l ≤ i → drop i l ≡ []
+at-end l i h = drop-of-length-le l h
+
+-- ---- bytes at place i
+
+module _ (l : List ℕ) (i : ℕ) (h : i < length l) where
+  pub spaces-more : getD l i 0 ≡ 32 → afterSpaces (drop i l) ≡ afterSpaces (drop (i + 1) l)
+  spaces-more e = rw (drop-next 0 l i h) (simp (eq-eqb _ _ e))
+
+  pub spaces-stop : (getD l i 0 ≡ 32 → ⊥) → afterSpaces (drop i l) ≡ drop i l
+  spaces-stop e = rw (drop-next 0 l i h) (simp (ne-eqb _ _ e))
+
+  pub line-more : (getD l i 0 ≡ 10 → ⊥) → lineLength (drop i l) ≡ suc (lineLength (drop (i + 1) l))
+  line-more e = rw (drop-next 0 l i h) (simp (ne-eqb _ _ e))
+
+  pub line-stop : getD l i 0 ≡ 10 → lineLength (drop i l) ≡ 0
+  line-stop e = rw (drop-next 0 l i h) (simp (eq-eqb _ _ e))
+
+  pub digits-more : (v : ℕ) → 48 ≤ getD l i 0 → getD l i 0 ≤ 57 → digitsAfter v (drop i l) ≡ digitsAfter (v * 10 + (getD l i 0 - 48)) (drop (i + 1) l)
+  digits-more v a b = rw (drop-next 0 l i h) (simp (le-leb _ _ a, le-leb _ _ b))
+
+  pub digits-low : (v : ℕ) → getD l i 0 < 48 → digitsAfter v (drop i l) ≡ none
+  digits-low v a = rw (drop-next 0 l i h) (simp (lt-leb _ _ a))
+
+  pub digits-high : (v : ℕ) → 57 < getD l i 0 → digitsAfter v (drop i l) ≡ none
+  digits-high v a = rw (drop-next 0 l i h) (simp (le-leb 48 (getD l i 0) (omega arith), lt-leb _ _ a))
+
+pub spaces-fewer : (l : List ℕ) → length (afterSpaces l) ≤ length l
+spaces-fewer [] = omega arith
+spaces-fewer (b ∷ bs) = go (eqb b 32) (spaces-fewer bs)
+  where
+    go : (t : Bool) → length (afterSpaces bs) ≤ length bs → length (cond t (afterSpaces bs) (b ∷ bs)) ≤ suc (length bs)
+    go true h = omega arith
+    go false h = omega arith
+
+-- ---- four digits stay below 10,000
+
+pub ten-more : (i v b : ℕ) → v < 10 ^ i → b ≤ 9 → v * 10 + b < 10 ^ (i + 1)
+ten-more i v b hv hb = rw (add-one, pow-suc) (omega arith)
+
+pub ten-le : (i v : ℕ) → v < 10 ^ i → i ≤ 4 → v < 10000
+ten-le i v h k = lt-of-lt-of-le h (pow-le-pow-right {n = 10} (omega arith) k)
+
+-- ---- words of marks
+
+pub word-lt : (p : ℕ → Bool) (k : ℕ) → wordWhere p k < 2 ^ k
+unfolding wordWhere
+word-lt p zero = omega arith
+word-lt p (suc e) = rw two-pow-succ (go (p e) (word-lt p e))
+  where
+    go : (t : Bool) → wordWhere p e < 2 ^ e → wordWhere p e + cond t (2 ^ e) 0 < 2 ^ e + 2 ^ e
+    go true h = omega arith
+    go false h = omega (arith, pow-pos e)
+
+pub word-more : (p : ℕ → Bool) (e : ℕ) → wordWhere p (e + 1) ≡ wordWhere p e + cond (p e) (2 ^ e) 0
+unfolding wordWhere
+word-more p e = rw add-one
+
+pub or-bit : (w e : ℕ) → e < 32 → w < 2 ^ e → bitOr w (1 * 2 ^ e % 18446744073709551616) ≡ w + 2 ^ e
+or-bit w e h k = rw (shl-exact {a = 1} 1 e 64 (omega arith) (omega arith), or-shifted-r 1 e w k) (simp one-mul (add-comm (2 ^ e) w))

@@ -1,0 +1,397 @@
+// The sheet reader: a club's sheet, byte by byte, to a model. The first step of the chain.
+ghost use mathlib.Core.Path.{_≡_};
+ghost use Prim.Native.Nat.{_≤_, _<_, _+_, _^_};
+ghost use mathlib.Core.Bool.{cond};
+ghost use lib.ListN.{length};
+ghost use Rattle.model.specs.Lists.{every, range};
+ghost use Rattle.model.specs.Limits.{limits};
+ghost use Rattle.model.specs.Sheet.{fieldAt, afterSpaces, digitsAfter, asField, fieldValue, valueAt, formRefusal, headRefusal, markAt, groupRefusal, groupFrom, groupCount, firstGroup, countFrom, constraintFrom, constraintRefusal, lineRefusal, refusedSheet, readSheet};
+ghost use Rattle.sheet.specs.Line.{lineLength, goodMark};
+use model::Constraint;
+use model::FieldValue;
+use model::Group;
+use model::Model;
+use model::SheetRead;
+
+// The four bytes of field i of a line, or nothing where the line has no such field.
+fn field(line: &[u8], i: usize) -> &[u8]
+    ensures { λ r. ⌜ now r ≡ fieldAt (now (line .entry)) i ⌝ }
+{
+    let n = line.len() / 4;
+    if i < n {
+        let a = i * 4;
+        &line[a..a + 4]
+    } else {
+        &line[..0]
+    }
+}
+
+// The part of a field after its leading spaces.
+fn unspaced(f: &[u8]) -> &[u8]
+    ensures { λ r. ⌜ now r ≡ afterSpaces (now (f .entry)) ⌝ }
+{
+    let mut i: usize = 0;
+    while i < f.len() {
+        if f[i] != 32 {
+            return &f[i..];
+        }
+        i += 1;
+    }
+    &f[i..]
+}
+
+// The number that digits stand for.
+fn decimal(d: &[u8]) -> FieldValue
+    requires { ⌜ length (now d) ≤ 4 ⌝ }
+    ensures { λ r. ⌜ r ≡ asField (digitsAfter 0 (now (d .entry))) ⌝ }
+{
+    let mut v: u32 = 0;
+    let mut i: usize = 0;
+    while i < d.len() {
+        let b = d[i];
+        if b < 48 {
+            return FieldValue::Bad;
+        }
+        if 57 < b {
+            return FieldValue::Bad;
+        }
+        v = v * 10 + (b - 48) as u32;
+        i += 1;
+    }
+    FieldValue::Number(v)
+}
+
+// The number that a field holds.
+fn number(f: &[u8]) -> FieldValue
+    ensures { λ r. ⌜ r ≡ fieldValue (now (f .entry)) ⌝ }
+{
+    if f.len() != 4 {
+        return FieldValue::Bad;
+    }
+    let d = unspaced(f);
+    let n = d.len();
+    if n == 0 {
+        return FieldValue::Bad;
+    }
+    if n == 1 {
+        return decimal(d);
+    }
+    if d[0] == 48 {
+        return FieldValue::Bad;
+    }
+    decimal(d)
+}
+
+// The number in field i of a line; 0 where it is none.
+fn value(line: &[u8], i: usize) -> u32
+    ensures { λ r. ⌜ r ≡ valueAt (now (line .entry)) i ⌝ }
+{
+    let FieldValue::Number(v) = number(field(line, i)) else {
+        return 0;
+    };
+    v
+}
+
+// Refusals 3 and 4 of a line; 0 where neither applies.
+fn form_refusal(line: &[u8]) -> u32
+    ensures { λ r. ⌜ r ≡ formRefusal (now (line .entry)) ⌝ }
+{
+    let n = line.len();
+    if n == 0 {
+        return 3;
+    }
+    if n % 4 != 0 {
+        return 3;
+    }
+    let k = n / 4;
+    let mut i: usize = 0;
+    while i < k {
+        let FieldValue::Number(_) = number(field(line, i)) else {
+            return 4;
+        };
+        i += 1;
+    }
+    0
+}
+
+// Refusals 5 to 7 of the head.
+fn head_refusal(line: &[u8]) -> u32
+    ensures { λ r. ⌜ r ≡ headRefusal (now (line .entry)) ⌝ }
+{
+    if value(line, 0) != 1 {
+        return 5;
+    }
+    if line.len() / 4 != 4 {
+        return 6;
+    }
+    let n = value(line, 1);
+    if n < 1 {
+        return 7;
+    }
+    if Model::ENTRANTS < n {
+        return 7;
+    }
+    let s = value(line, 2);
+    if s < 1 {
+        return 7;
+    }
+    if Model::GROUPS < s as usize {
+        return 7;
+    }
+    if Model::CONSTRAINTS < value(line, 3) as usize {
+        return 7;
+    }
+    0
+}
+
+// Every mark of a group line is 0, 1 or 2.
+fn good_marks(line: &[u8], n: u32) -> bool
+    requires { ⌜ n ≤ limits .entrants ⌝ }
+    ensures { λ r. ⌜ r ≡ every (goodMark (now (line .entry))) (range 0 n) ⌝ }
+{
+    let mut e: u32 = 0;
+    while e < n {
+        if 2 < value(line, 4 + e as usize) {
+            return false;
+        }
+        e += 1;
+    }
+    true
+}
+
+// Refusals 5 to 8 of the line of group g.
+fn group_refusal(n: u32, g: u32, line: &[u8]) -> u32
+    requires { ⌜ n ≤ limits .entrants ⌝ }
+    ensures { λ r. ⌜ r ≡ groupRefusal n g (now (line .entry)) ⌝ }
+{
+    if value(line, 0) != 2 {
+        return 5;
+    }
+    if line.len() / 4 != 4 + n as usize {
+        return 6;
+    }
+    let high = value(line, 3);
+    if high < value(line, 2) {
+        return 7;
+    }
+    if n < high {
+        return 7;
+    }
+    if !good_marks(line, n) {
+        return 7;
+    }
+    if value(line, 1) != g {
+        return 8;
+    }
+    0
+}
+
+// The word w, below bit e, with bit e set where `on`.
+fn with_bit(w: u64, e: u32, on: bool) -> u64
+    requires { ⌜ (e < limits .entrants) × (w < 2 ^ e) ⌝ }
+    ensures { λ r. ⌜ r ≡ w + cond on (2 ^ e) 0 ⌝ }
+{
+    if on {
+        return w | 1 << e;
+    }
+    w
+}
+
+// The group of a group line with n marks.
+fn read_group(n: u32, line: &[u8]) -> Group
+    requires { ⌜ n ≤ limits .entrants ⌝ }
+    ensures { λ r. ⌜ r ≡ groupFrom n (now (line .entry)) ⌝ }
+{
+    let mut fixed: u64 = 0;
+    let mut possible: u64 = 0;
+    let mut e: u32 = 0;
+    while e < n {
+        let mark = value(line, 4 + e as usize);
+        fixed = with_bit(fixed, e, mark == 2);
+        possible = with_bit(possible, e, mark != 0);
+        e += 1;
+    }
+    Group {
+        fixed,
+        possible,
+        low: value(line, 2),
+        high: value(line, 3),
+    }
+}
+
+// The count of a constraint line: k of code 6, 0 of every other.
+fn count_from(line: &[u8]) -> u32
+    ensures { λ r. ⌜ r ≡ countFrom (now (line .entry)) ⌝ }
+{
+    if value(line, 1) == 6 {
+        return value(line, 2);
+    }
+    0
+}
+
+// The field of a constraint line's first group.
+fn first_group(line: &[u8]) -> usize
+    ensures { λ r. ⌜ r ≡ firstGroup (now (line .entry)) ⌝ }
+{
+    if value(line, 1) == 6 {
+        return 3;
+    }
+    2
+}
+
+// How many groups a constraint line names.
+fn group_count(line: &[u8]) -> usize
+    ensures { λ r. ⌜ r ≡ groupCount (now (line .entry)) ⌝ }
+{
+    model::member_count(value(line, 1), count_from(line))
+}
+
+// The numbers of a constraint line's k groups, then zeros.
+fn read_numbers(line: &[u8], k: usize) -> [u32; Model::MEMBERS]
+    requires { ⌜ k ≤ limits .members ⌝ }
+    requires { ⌜ k ≡ groupCount (now line) ⌝ }
+    ensures { λ r. ⌜ r ≡ constraintFrom (now (line .entry)) .groups ⌝ }
+{
+    let a = first_group(line);
+    let mut groups: [u32; Model::MEMBERS] = [0; Model::MEMBERS];
+    let mut i: usize = 0;
+    while i < k {
+        groups[i] = value(line, a + i);
+        i += 1;
+    }
+    groups
+}
+
+// The constraint of a constraint line.
+fn read_constraint(line: &[u8]) -> Constraint
+    requires { ⌜ groupCount (now line) ≤ limits .members ⌝ }
+    ensures { λ r. ⌜ r ≡ constraintFrom (now (line .entry)) ⌝ }
+{
+    let k = group_count(line);
+    let groups = read_numbers(line, k);
+    Constraint {
+        code: value(line, 1),
+        count: count_from(line),
+        groups,
+    }
+}
+
+// Refusals 5 to 9 of a constraint line.
+fn constraint_refusal(s: u32, line: &[u8]) -> u32
+    ensures { λ r. ⌜ r ≡ constraintRefusal s (now (line .entry)) ⌝ }
+{
+    if value(line, 0) != 3 {
+        return 5;
+    }
+    if !model::code_in_range(value(line, 1), count_from(line)) {
+        return 6;
+    }
+    let k = group_count(line);
+    if line.len() / 4 != first_group(line) + k {
+        return 6;
+    }
+    let groups = read_numbers(line, k);
+    if !model::all_between(groups, k, s) {
+        return 7;
+    }
+    if !model::all_distinct(groups, k) {
+        return 9;
+    }
+    0
+}
+
+// The refusal of a line after `done` lines, of which the head said n, s and c; 0 where there is none.
+fn line_refusal(n: u32, s: u32, c: u32, done: u32, line: &[u8]) -> u32
+    requires { ⌜ (n ≤ limits .entrants) × (s ≤ limits .groups) × (c ≤ limits .constraints) ⌝ }
+    ensures { λ r. ⌜ r ≡ lineRefusal n s c done (now (line .entry)) ⌝ }
+{
+    let bad = form_refusal(line);
+    if bad != 0 {
+        return bad;
+    }
+    if done == 0 {
+        return head_refusal(line);
+    }
+    if done <= s {
+        return group_refusal(n, done, line);
+    }
+    if done <= s + c {
+        return constraint_refusal(s, line);
+    }
+    5
+}
+
+// The length of the first line.
+fn line_length(s: &[u8]) -> usize
+    ensures { λ r. ⌜ r ≡ lineLength (now (s .entry)) ⌝ }
+{
+    let mut i: usize = 0;
+    while i < s.len() {
+        if s[i] == 10 {
+            return i;
+        }
+        i += 1;
+    }
+    i
+}
+
+fn refused(refusal: u32, line: u32) -> SheetRead
+    ensures { λ r. ⌜ r ≡ refusedSheet refusal line ⌝ }
+{
+    SheetRead {
+        refusal,
+        line,
+        model: Model::zero(),
+    }
+}
+
+// The model of a sheet, or its refusal and the number of its line.
+pub fn read_sheet(sheet: &[u8]) -> SheetRead
+    ensures { λ r. ⌜ r ≡ readSheet (now (sheet .entry)) ⌝ }
+{
+    let n = sheet.len();
+    if Model::SHEET_BYTES < n {
+        return refused(1, 0);
+    }
+    if n == 0 {
+        return refused(2, 0);
+    }
+    if sheet[n - 1] != 10 {
+        return refused(2, 0);
+    }
+    let mut m = Model::zero();
+    let mut done: u32 = 0;
+    let mut at: usize = 0;
+    while at < n {
+        let rest = &sheet[at..];
+        let len = line_length(rest);
+        let line = &rest[..len];
+        let bad = line_refusal(m.n, m.s, m.c, done, line);
+        if bad != 0 {
+            return refused(bad, done + 1);
+        }
+        if done == 0 {
+            m.n = value(line, 1);
+            m.s = value(line, 2);
+            m.c = value(line, 3);
+        } else if done <= m.s {
+            let g = read_group(m.n, line);
+            let i = (done - 1) as usize;
+            m.groups[i] = g;
+        } else {
+            let k = read_constraint(line);
+            let j = (done - m.s - 1) as usize;
+            m.constraints[j] = k;
+        }
+        done += 1;
+        at = at + len + 1;
+    }
+    if done <= m.s + m.c {
+        return refused(5, done + 1);
+    }
+    SheetRead {
+        refusal: 0,
+        line: 0,
+        model: m,
+    }
+}
