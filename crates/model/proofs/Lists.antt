@@ -6,10 +6,10 @@ use native.Mathlib.Nat.{add-zero, add-suc, add-assoc}
 use native.Mathlib.Omega.{arith}
 use native.Mathlib.Decide.{decLt, ℕ-discrete}
 use mathlib.Core.Bool.{Bool, true, false, not, _&&_, _||_}
-use mathlib.Core.List.{List, [], _∷_, _++_, map, append-assoc}
+use mathlib.Core.List.{List, [], _∷_, _++_, map, append-assoc, List·Memᴰ, List·Memᴰ·head, List·Memᴰ·tail, List·Permᴰ, List·Permᴰ·nil, List·Permᴰ·cons, List·Permᴰ·swap, List·Permᴰ·trans}
 use lib.Dec.{T}
 use lib.ListN.{length, getD, set, take, drop, length-append, length-take}
-use Rattle.model.specs.Lists.{every, any, each, total, range, onPlace}
+use Rattle.model.specs.Lists.{every, any, pairwise, each, total, range, onPlace}
 
 -- ---- tests as facts
 
@@ -133,3 +133,83 @@ pub place-append : {A : Type 0} (i : ℕ) (r : A → A) (t u : List A) → i < l
 place-append i r [] u h = absurd (omega arith)
 place-append zero r (x ∷ xs) u h = refl
 place-append (suc i) r (x ∷ xs) u h = ap {B = List _} (λ l. x ∷ l) (place-append i r xs u (omega arith))
+
+-- ---- what holds of every element
+
+abbrev pub All {ℓ} : {A : Type ℓ} → (A → Type 0) → List A → Type 0
+All P [] = Unit {0}
+All P (x ∷ xs) = P x × All P xs
+
+module _ {ℓ} {A : Type ℓ} (P : A → Type 0) where
+  pub all-of : ((a : A) → P a) → (l : List A) → All P l
+  all-of f [] = tt
+  all-of f (x ∷ l) = (f x, all-of f l)
+
+  pub all-append : (l m : List A) → All P l → All P m → All P (l ++ m)
+  all-append [] m h k = k
+  all-append (x ∷ l) m h k = (h .0, all-append l m (h .1) k)
+
+  pub all-left : (l m : List A) → All P (l ++ m) → All P l
+  all-left [] m h = tt
+  all-left (x ∷ l) m h = (h .0, all-left l m (h .1))
+
+  pub all-right : (l m : List A) → All P (l ++ m) → All P m
+  all-right [] m h = h
+  all-right (x ∷ l) m h = all-right l m (h .1)
+
+  pub all-perm : {l m : List A} → List·Permᴰ l m → All P l → All P m
+  all-perm List·Permᴰ·nil h = h
+  all-perm (List·Permᴰ·cons e d) h = (subst P e (h .0), all-perm d (h .1))
+  all-perm (List·Permᴰ·swap e f) h = (subst P f (h .1 .0), (subst P e (h .0), h .1 .1))
+  all-perm (List·Permᴰ·trans d e) h = all-perm e (all-perm d h)
+
+  pub all-at : {a : A} {l : List A} → List·Memᴰ a l → All P l → P a
+  all-at (List·Memᴰ·head e) h = subst P (sym e) (h .0)
+  all-at (List·Memᴰ·tail m) h = all-at m (h .1)
+
+  -- what holds of each place
+  pub all-mem : (l : List A) → ((a : A) → List·Memᴰ a l → P a) → All P l
+  all-mem [] f = tt
+  all-mem (x ∷ l) f = (f x (List·Memᴰ·head refl), all-mem l (λ a m. f a (List·Memᴰ·tail m)))
+
+pub all-map {ℓ κ} : {A : Type ℓ} {B : Type κ} (P : B → Type 0) (f : A → B) (l : List A) → All (λ a. P (f a)) l → All P (map f l)
+all-map P f [] h = tt
+all-map P f (x ∷ l) h = (h .0, all-map P f l (h .1))
+
+pub map-all {ℓ κ} : {A : Type ℓ} {B : Type κ} (P : B → Type 0) (f : A → B) (l : List A) → All P (map f l) → All (λ a. P (f a)) l
+map-all P f [] h = tt
+map-all P f (x ∷ l) h = (h .0, map-all P f l (h .1))
+
+-- the same, as a test
+pub every-all : {A : Type 0} (p : A → Bool) (l : List A) → T (every p l) → All (λ a. T (p a)) l
+every-all p [] t = tt
+every-all p (x ∷ l) t = (and-left (p x) (every p l) t, every-all p l (and-right (p x) (every p l) t))
+
+pub all-every : {A : Type 0} (p : A → Bool) (l : List A) → All (λ a. T (p a)) l → T (every p l)
+all-every p [] h = tt
+all-every p (x ∷ l) h = and-both (p x) (every p l) (h .0) (all-every p l (h .1))
+
+-- ---- two lists of one length
+
+module _ {A : Type 0} (p : A → A → Bool) where
+  pub pairwise-refl : ((x : A) → T (p x x)) → (x : List A) → T (pairwise p x x)
+  pairwise-refl f [] = tt
+  pairwise-refl f (x ∷ xs) = and-both (p x x) (pairwise p xs xs) (f x) (pairwise-refl f xs)
+
+  pub pairwise-trans : ((x y z : A) → T (p x y) → T (p y z) → T (p x z)) → (x y z : List A)
+      → T (pairwise p x y) → T (pairwise p y z) → T (pairwise p x z)
+  pairwise-trans f [] [] z s t = t
+  pairwise-trans f [] (y ∷ ys) z s t = absurd s
+  pairwise-trans f (x ∷ xs) [] z s t = absurd s
+  pairwise-trans f (x ∷ xs) (y ∷ ys) [] s t = absurd t
+  pairwise-trans f (x ∷ xs) (y ∷ ys) (z ∷ zs) s t =
+      let a = p x y in
+      let b = p y z in
+      and-both (p x z) (pairwise p xs zs) (f x y z (and-left a (pairwise p xs ys) s) (and-left b (pairwise p ys zs) t))
+        (pairwise-trans f xs ys zs (and-right a (pairwise p xs ys) s) (and-right b (pairwise p ys zs) t))
+
+pub pairwise-length : {A B : Type 0} (p : A → B → Bool) (x : List A) (y : List B) → T (pairwise p x y) → length x ≡ length y
+pairwise-length p [] [] t = refl
+pairwise-length p [] (y ∷ ys) t = absurd t
+pairwise-length p (x ∷ xs) [] t = absurd t
+pairwise-length p (x ∷ xs) (y ∷ ys) t = ap suc (pairwise-length p xs ys (and-right (p x y) (pairwise p xs ys) t))

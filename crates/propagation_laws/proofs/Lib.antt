@@ -1,0 +1,4 @@
+pub mod Fixpoint
+pub mod Tables
+pub mod GroupRule
+pub mod ConstraintRule
