@@ -213,3 +213,34 @@ pairwise-length p [] [] t = refl
 pairwise-length p [] (y ∷ ys) t = absurd t
 pairwise-length p (x ∷ xs) [] t = absurd t
 pairwise-length p (x ∷ xs) (y ∷ ys) t = ap suc (pairwise-length p xs ys (and-right (p x y) (pairwise p xs ys) t))
+
+-- ---- tests of what is made of each element
+
+module _ {A B : Type 0} (p : B → Bool) (f : A → B) where
+  pub every-map : (l : List A) → every p (map f l) ≡ every (λ a. p (f a)) l
+  every-map [] = refl
+  every-map (x ∷ l) = ap (λ b. p (f x) && b) (every-map l)
+
+  pub any-map : (l : List A) → any p (map f l) ≡ any (λ a. p (f a)) l
+  any-map [] = refl
+  any-map (x ∷ l) = ap (λ b. p (f x) || b) (any-map l)
+
+module _ {A : Type 0} (p q : A → Bool) (h : (a : A) → p a ≡ q a) where
+  pub every-same : (l : List A) → every p l ≡ every q l
+  every-same [] = refl
+  every-same (x ∷ l) = ap₂ _&&_ (h x) (every-same l)
+
+  pub any-same : (l : List A) → any p l ≡ any q l
+  any-same [] = refl
+  any-same (x ∷ l) = ap₂ _||_ (h x) (any-same l)
+
+-- the first k elements, by their places
+pub take-places : {A : Type 0} (d : A) (l : List A) (k : ℕ) → k ≤ length l → take k l ≡ map (λ i. getD l i d) (range 0 k)
+take-places d l k h = from l k 0 (λ i. getD l i d) h (λ i. ap (λ (j : ℕ). getD l j d) (native.Mathlib.Nat.zero-add i))
+  where
+    from : (l : List _) (k a : ℕ) (g : ℕ → _) → k ≤ length l → ((i : ℕ) → g (a + i) ≡ getD l i d) → take k l ≡ map g (range a k)
+    from l zero a g h e = refl
+    from [] (suc k) a g h e = absurd (omega arith)
+    from (x ∷ l) (suc k) a g h e =
+        ap₂ {C = List _} (λ y m. y ∷ m) (sym (e 0) ∙ ap g (add-zero a))
+          (from l k (suc a) g (omega arith) (λ i. ap g (native.Mathlib.Nat.suc-add a i ∙ sym (add-suc a i)) ∙ e (suc i)))

@@ -5,7 +5,7 @@ use Prim.Native.Nat.{ℕ, zero, suc, _+_, _-_, _*_, _/_, _%_, _^_, _≤_, _<_, m
 use native.Mathlib.Nat.{le-refl, le-trans, le-antisymm, div-add-mod', div-one, div-div-eq-div-mul, pow-zero, pow-suc, pow-succ'}
 use native.Mathlib.Omega.{arith}
 use native.Mathlib.Decide.{decLt}
-use mathlib.Core.Bool.{Bool, true, false}
+use mathlib.Core.Bool.{Bool, true, false, cond, not, _&&_, _||_}
 use borrow.Author.Tests.{eqb-true, eqb-false}
 use lib.Dec.{T, eqb, eqb→eq, eqb-refl}
 use lib.Arith.{bin-ind, digits-div, digits-mod}
@@ -245,3 +245,76 @@ size-less a b s = size-apart (less a b) b a
           bit-first z,
           ih (x / 2) (y / 2) (λ e. omega (arith, h (suc e), bit-next e x, bit-next e y, bit-next e z)),
         )) z x y
+
+-- ---- membership as a test
+
+pub bit-has : (e w : ℕ) → bit e w ≡ cond (has w e) 1 0
+unfolding has
+bit-has e w = go (eqb (bit e w) 1) refl
+  where
+    go : (b : Bool) → eqb (bit e w) 1 ≡ b → bit e w ≡ cond b 1 0
+    go true q = eqb-true (bit e w) 1 q
+    go false q = omega (arith, bit-le e w, eqb-false (bit e w) 1 q)
+
+pub has-bit : (e w : ℕ) (x : Bool) → bit e w ≡ cond x 1 0 → has w e ≡ x
+unfolding has
+has-bit e w true h = rw h
+has-bit e w false h = rw h
+
+pub has-zero : (e : ℕ) → has 0 e ≡ false
+has-zero e = has-bit e 0 false (bit-zero e)
+
+pub has-and : (a b e : ℕ) → has (bitAnd a b) e ≡ (has a e && has b e)
+has-and a b e =
+    has-bit e (bitAnd a b) (has a e && has b e) (bit-and e a b ∙ rw (bit-has e a, bit-has e b) (table (has a e) (has b e)))
+  where
+    table : (x y : Bool) → min (cond x 1 0) (cond y 1 0) ≡ cond (x && y) 1 0
+    table true true = refl
+    table true false = refl
+    table false true = refl
+    table false false = refl
+
+pub has-or : (a b e : ℕ) → has (bitOr a b) e ≡ (has a e || has b e)
+has-or a b e =
+    has-bit e (bitOr a b) (has a e || has b e) (bit-or e a b ∙ rw (bit-has e a, bit-has e b) (table (has a e) (has b e)))
+  where
+    table : (x y : Bool) → max (cond x 1 0) (cond y 1 0) ≡ cond (x || y) 1 0
+    table true true = refl
+    table true false = refl
+    table false true = refl
+    table false false = refl
+
+pub has-less : (a b e : ℕ) → has (less a b) e ≡ (has a e && not (has b e))
+has-less a b e =
+    has-bit e (less a b) (has a e && not (has b e)) (bit-less e a b ∙ rw (bit-has e a, bit-has e b) (table (has a e) (has b e)))
+  where
+    table : (x y : Bool) → cond x 1 0 - cond y 1 0 ≡ cond (x && not y) 1 0
+    table true true = refl
+    table true false = refl
+    table false true = refl
+    table false false = refl
+
+-- a word below 2 ^ n has no member past n
+pub has-past : (n w e : ℕ) → w < 2 ^ n → n ≤ e → has w e ≡ false
+has-past n w e h l = has-bit e w false (bit-past n e w h l)
+
+pub has-ext : (a b : ℕ) → ((e : ℕ) → has a e ≡ has b e) → a ≡ b
+has-ext a b h = bit-ext a b (λ e. bit-has e a ∙ ap (λ (x : Bool). cond x 1 0) (h e) ∙ sym (bit-has e b))
+
+pub has-sub : (a b : ℕ) → ((e : ℕ) → T (has a e) → T (has b e)) → Sub a b
+has-sub a b h = record { at = λ e. rw (bit-has e a, bit-has e b) (table (has a e) (has b e) (h e)) }
+  where
+    table : (x y : Bool) → (T x → T y) → cond x 1 0 ≤ cond y 1 0
+    table true true f = le-refl 1
+    table true false f = absurd (f tt)
+    table false true f = omega arith
+    table false false f = le-refl 0
+
+pub sub-has : (a b : ℕ) → Sub a b → (e : ℕ) → T (has a e) → T (has b e)
+sub-has a b s e = table (has a e) (has b e) (rw (bit-has e a, bit-has e b) at (s .at e))
+  where
+    table : (x y : Bool) → cond x 1 0 ≤ cond y 1 0 → T x → T y
+    table true true l t = tt
+    table true false l t = absurd (omega arith)
+    table false true l t = tt
+    table false false l t = t

@@ -2,3 +2,4 @@ pub mod Fixpoint
 pub mod Tables
 pub mod GroupRule
 pub mod ConstraintRule
+pub mod Meaning

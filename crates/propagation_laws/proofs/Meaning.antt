@@ -1,0 +1,258 @@
+-- Each code's meaning as sets is what its clauses say of every entrant, both ways, for every code. Assumes nothing.
+use mathlib.Core.Path.{_≡_, refl, sym, ap, ap₂, _∙_, subst}
+use mathlib.Core.Logic.{_↔_}
+use Prim.Native.Nat.{ℕ, zero, suc, _+_, _-_, _^_, _≤_, _<_}
+use native.Mathlib.Numerals.{add-one}
+use native.Mathlib.Omega.{arith}
+use native.Mathlib.Decide.{decLt}
+use mathlib.Core.Bool.{Bool, true, false, cond, not, _&&_, _||_}
+use mathlib.Core.List.{List, [], _∷_, _++_, map, map-map}
+use lib.Dec.{T, leb, eqb, eqb→eq, eqb-refl, leb→le}
+use lib.Bits.{bitAnd, bitOr}
+use lib.ListN.{length, getD, take}
+use Rattle.model.specs.declared.Literal.{Literal}
+use Rattle.model.specs.declared.Literal.the-variants.{Pos, Neg}
+use Rattle.model.specs.declared.Constraint.{Constraint}
+use Rattle.model.specs.Lists.{every, any, range, between}
+use Rattle.model.specs.Words.{less, inside, has}
+use Rattle.model.specs.Clauses.{memberCount, shortClauses, unionClauses, memberClauses, ofGroup, groupsOf, clausesOf}
+use Rattle.model.specs.Model.{codeInRange}
+use Rattle.model.specs.Limits.{limits}
+use Rattle.model.specs.Solution.{union, meaning, setOf, constraintTrue}
+use Rattle.model.proofs.Lists.{T-true, true-T, T-ext, and-left, and-right, and-both, any-append, every-map, any-map, every-same, any-same, take-places}
+use Rattle.model.proofs.Words.{has-zero, has-and, has-or, has-less, has-past, has-ext, has-sub, sub-has, inside-sub, sub-inside}
+
+-- ---- literals, clauses and constraints for one entrant: v says in which groups the entrant is
+
+unfoldable pub literalAt : (ℕ → Bool) → Literal → Bool
+literalAt v (Pos g) = v g
+literalAt v (Neg g) = not (v g)
+
+unfoldable pub clausesAt : (ℕ → Bool) → List (List Literal) → Bool
+clausesAt v cs = every (any (literalAt v)) cs
+
+unfoldable pub clausesHold : List ℕ → Constraint → ℕ → Bool
+clausesHold d c e = clausesAt (λ g. has (setOf d g) e) (clausesOf c)
+
+-- ---- the clauses over groups are those over members
+
+of-group : (v : ℕ → Bool) (gs : List ℕ) (l : Literal) → literalAt v (ofGroup gs l) ≡ literalAt (λ i. v (getD gs i 0)) l
+unfolding literalAt ofGroup
+of-group v gs (Pos i) = refl
+of-group v gs (Neg i) = refl
+
+pub over-members : (v : ℕ → Bool) (c : Constraint)
+    → clausesAt v (clausesOf c) ≡ clausesAt (λ i. v (getD (c .groups) i 0)) (memberClauses (c .code) (c .count))
+unfolding clausesAt clausesOf
+over-members v c =
+    every-map (any (literalAt v)) (map (ofGroup (c .groups))) (memberClauses (c .code) (c .count))
+    ∙ every-same (λ ls. any (literalAt v) (map (ofGroup (c .groups)) ls)) (any (literalAt (λ i. v (getD (c .groups) i 0))))
+      (λ ls. any-map (literalAt v) (ofGroup (c .groups)) ls
+        ∙ any-same (λ l. literalAt v (ofGroup (c .groups) l)) (literalAt (λ i. v (getD (c .groups) i 0))) (of-group v (c .groups)) ls)
+      (memberClauses (c .code) (c .count))
+
+-- ---- the union
+
+has-union : (e : ℕ) (ws : List ℕ) → has (union ws) e ≡ any (λ w. has w e) ws
+unfolding union
+has-union e [] = has-zero e
+has-union e (w ∷ ws) = has-or w (union ws) e ∙ ap (λ b. has w e || b) (has-union e ws)
+
+-- "not any, or b", element by element
+none-or : (x : ℕ → Bool) (b : Bool) (l : List ℕ) → every (λ i. not (x i) || (b || false)) l ≡ (not (any x l) || b)
+none-or x b [] = refl
+none-or x b (i ∷ l) = ap (λ t. (not (x i) || (b || false)) && t) (none-or x b l) ∙ table (x i) (any x l) b
+  where
+    table : (p q b : Bool) → ((not p || (b || false)) && (not q || b)) ≡ (not (p || q) || b)
+    table true true true = refl
+    table true true false = refl
+    table true false true = refl
+    table true false false = refl
+    table false true true = refl
+    table false true false = refl
+    table false false true = refl
+    table false false false = refl
+
+union-clauses : (k : ℕ) (x : ℕ → Bool)
+    → clausesAt x (unionClauses k) ≡ ((any x (range 1 k) || (not (x 0) || false)) && (not (any x (range 1 k)) || x 0))
+unfolding clausesAt unionClauses literalAt
+union-clauses k x =
+    ap₂ _&&_
+      (any-append (literalAt x) (map Pos (range 1 k)) (Neg 0 ∷ [])
+      ∙ ap (λ b. b || (not (x 0) || false)) (any-map (literalAt x) Pos (range 1 k)))
+      (every-map (any (literalAt x)) (λ i. Neg i ∷ Pos 0 ∷ []) (range 1 k) ∙ none-or x (x 0) (range 1 k))
+
+-- ---- each code, for one entrant: the clauses say that the first set has it exactly when the meaning says so
+
+-- two sets are equal when each entrant's clauses hold
+module _ (a b : ℕ) (says : ℕ → Bool) (is : (e : ℕ) → T (says e) ↔ (has a e ≡ has b e)) where
+  equal-sets : T (eqb a b) ↔ ((e : ℕ) → T (says e))
+  equal-sets = (
+    (λ t e. is e .1 (ap (λ (w : ℕ). has w e) (eqb→eq a b t))),
+    (λ h. subst (λ (w : ℕ). T (eqb a w)) (has-ext a b (λ e. is e .0 (h e))) (eqb-refl a)),
+  )
+
+within-table : (x y : Bool) → T ((not x || (y || false)) && true) ↔ (T x → T y)
+within-table true true = ((λ t s. tt), (λ f. tt))
+within-table true false = ((λ t s. t), (λ f. f tt))
+within-table false true = ((λ t s. tt), (λ f. tt))
+within-table false false = ((λ t s. s), (λ f. tt))
+
+-- a test that says x is `value y z`, by its eight rows
+abbrev agree : Bool → Bool → Bool
+agree true b = b
+agree false b = not b
+
+agree-eq : (a b : Bool) → T (agree a b) ↔ (a ≡ b)
+agree-eq true true = ((λ t. refl), (λ e. tt))
+agree-eq true false = ((λ t. absurd t), (λ e. subst T e tt))
+agree-eq false true = ((λ t. absurd t), (λ e. subst T (sym e) tt))
+agree-eq false false = ((λ t. refl), (λ e. tt))
+
+abbrev both : (Bool → Bool) → Bool
+both p = p true && p false
+
+both-all : (p : Bool → Bool) → T (both p) → (b : Bool) → T (p b)
+both-all p t true = and-left (p true) (p false) t
+both-all p t false = and-right (p true) (p false) t
+
+module _ (says : Bool → Bool → Bool → Bool) (value : Bool → Bool → Bool) where
+  abbrev row : Bool → Bool → Bool → Bool
+  row x y z = agree (says x y z) (agree x (value y z))
+
+  abbrev rows : Bool
+  rows = both (λ x. both (λ y. both (λ z. row x y z)))
+
+  by-rows : T rows → (x y z : Bool) → T (says x y z) ↔ (x ≡ value y z)
+  by-rows t x y z =
+      let here = both-all (λ z. row x y z) (both-all (λ y. both (λ z. row x y z)) (both-all (λ x. both (λ y. both (λ z. row x y z))) t x) y) z in
+      subst (λ (b : Bool). T b ↔ (x ≡ value y z)) (sym (agree-eq (says x y z) (agree x (value y z)) .0 here)) (agree-eq x (value y z))
+
+-- ---- each code; the set of member i is S i
+
+by-code : (P : ℕ → Type 0) → P 1 → P 2 → P 3 → P 4 → P 5 → P 6 → (code : ℕ) → T (between 1 6 code) → P code
+by-code P a b c d e f zero t = absurd t
+by-code P a b c d e f (suc zero) t = a
+by-code P a b c d e f (suc (suc zero)) t = b
+by-code P a b c d e f (suc (suc (suc zero))) t = c
+by-code P a b c d e f (suc (suc (suc (suc zero)))) t = d
+by-code P a b c d e f (suc (suc (suc (suc (suc zero))))) t = e
+by-code P a b c d e f (suc (suc (suc (suc (suc (suc zero)))))) t = f
+by-code P a b c d e f (suc (suc (suc (suc (suc (suc (suc m))))))) t =
+    let code = suc (suc (suc (suc (suc (suc (suc m)))))) in
+    absurd (let h = leb→le code 6 (and-right (leb 1 code) (leb code 6) t) in omega arith)
+
+module _ (k : ℕ) (S : ℕ → ℕ) where
+  abbrev Says : ℕ → Type 0
+  Says code = T (meaning code (map S (range 0 (memberCount code k)))) ↔ ((e : ℕ) → T (clausesAt (λ i. has (S i) e) (memberClauses code k)))
+
+  -- the first set is b, and b has the entrants for whom `value` is true
+  is-set : (b : ℕ) (says : Bool → Bool → Bool → Bool) (value : Bool → Bool → Bool) (y z : ℕ → Bool)
+      → T (rows says value) → ((e : ℕ) → has b e ≡ value (y e) (z e)) → T (eqb (S 0) b) ↔ ((e : ℕ) → T (says (has (S 0) e) (y e) (z e)))
+  is-set b says value y z t members = equal-sets (S 0) b (λ e. says (has (S 0) e) (y e) (z e))
+      (λ e. rw (members e) (by-rows says value t (has (S 0) e) (y e) (z e)))
+
+  code1 : Says 1
+  unfolding meaning memberCount memberClauses shortClauses clausesAt literalAt
+  code1 =
+      is-set (S 1) (λ x y z. (not x || (y || false)) && ((x || (not y || false)) && true)) (λ y z. y) (λ e. has (S 1) e) (λ e. true) tt (λ e. refl)
+
+  code2 : Says 2
+  unfolding meaning memberCount memberClauses shortClauses clausesAt literalAt
+  code2 = (
+    (λ t e. within-table (has (S 0) e) (has (S 1) e) .1 (sub-has (S 0) (S 1) (inside-sub (S 0) (S 1) t) e)),
+    (λ h. sub-inside (S 0) (S 1) (has-sub (S 0) (S 1) (λ e. within-table (has (S 0) e) (has (S 1) e) .0 (h e)))),
+  )
+
+  code3 : Says 3
+  unfolding meaning memberCount memberClauses shortClauses clausesAt literalAt
+  code3 =
+      is-set (bitAnd (S 1) (S 2))
+        (λ x y z. (not y || (not z || (x || false))) && ((y || (not x || false)) && ((z || (not x || false)) && true)))
+        _&&_ (λ e. has (S 1) e) (λ e. has (S 2) e) tt (has-and (S 1) (S 2))
+
+  code4 : Says 4
+  unfolding meaning memberCount memberClauses shortClauses clausesAt literalAt
+  code4 =
+      is-set (bitOr (S 1) (S 2))
+        (λ x y z. (y || (z || (not x || false))) && ((not y || (x || false)) && ((not z || (x || false)) && true)))
+        _||_ (λ e. has (S 1) e) (λ e. has (S 2) e) tt (has-or (S 1) (S 2))
+
+  code5 : Says 5
+  unfolding meaning memberCount memberClauses shortClauses clausesAt literalAt
+  code5 =
+      is-set (less (S 1) (S 2))
+        (λ x y z. (not y || (z || (x || false))) && ((y || (not x || false)) && ((not z || (not x || false)) && true)))
+        (λ y z. y && not z) (λ e. has (S 1) e) (λ e. has (S 2) e) tt (has-less (S 1) (S 2))
+
+  code6 : Says 6
+  unfolding meaning memberCount memberClauses
+  code6 =
+      let u : ℕ → Bool = λ e. any (λ i. has (S i) e) (range 1 k) in
+      let is = is-set (union (map S (range 1 k))) (λ x y z. (y || (not x || false)) && (not y || x)) (λ y z. y) u (λ e. true) tt
+            (λ e. has-union e (map S (range 1 k)) ∙ any-map (λ w. has w e) S (range 1 k)) in
+      rw (add-one k)
+      (
+        (λ t e. subst T (sym (union-clauses k (λ i. has (S i) e))) (is .0 t e)),
+        (λ h. is .1 (λ e. subst T (union-clauses k (λ i. has (S i) e)) (h e))),
+      )
+
+  by-members : (code : ℕ) → T (between 1 6 code) → Says code
+  by-members = by-code Says code1 code2 code3 code4 code5 code6
+
+-- ---- a constraint
+
+-- its list has its groups, as an array of 17 does
+unfoldable pub hasMembers : Constraint → Bool
+hasMembers c = leb (memberCount (c .code) (c .count)) (length (c .groups))
+
+pub meaning-clauses : (c : Constraint) → T (codeInRange c) → T (hasMembers c) → (d : List ℕ)
+    → T (constraintTrue d c) ↔ ((e : ℕ) → T (clausesHold d c e))
+unfolding codeInRange hasMembers constraintTrue groupsOf clausesHold
+meaning-clauses c r h d =
+    let mc = memberCount (c .code) (c .count) in
+    let S : ℕ → ℕ = λ i. setOf d (getD (c .groups) i 0) in
+    let is = by-members (c .count) S (c .code) (and-left (between 1 6 (c .code)) (not (eqb (c .code) 6) || between 2 (limits .members - 1) (c .count)) r) in
+    let sets : map (setOf d) (take mc (c .groups)) ≡ map S (range 0 mc) =
+          ap (map (setOf d)) (take-places 0 (c .groups) mc (leb→le mc (length (c .groups)) h)) ∙ map-map (setOf d) (λ i. getD (c .groups) i 0) (range 0 mc) in
+    (
+      (λ t e. subst T (sym (over-members (λ g. has (setOf d g) e) c)) (is .0 (subst (λ (ws : List ℕ). T (meaning (c .code) ws)) sets t) e)),
+      (λ k. subst (λ (ws : List ℕ). T (meaning (c .code) ws)) (sym sets)
+        (is .1 (λ e. subst T (over-members (λ g. has (setOf d g) e) c) (k e)))),
+    )
+
+-- ---- words below 2 ^ n: only the entrants below n count, for a clause has a literal with a minus sign
+
+any-none : (l : List ℕ) → any (λ i. false) l ≡ false
+any-none [] = refl
+any-none (x ∷ l) = any-none l
+
+none : (k code : ℕ) → T (between 1 6 code) → T (clausesAt (λ i. false) (memberClauses code k))
+unfolding memberClauses shortClauses clausesAt literalAt
+none k = by-code (λ code. T (clausesAt (λ i. false) (memberClauses code k))) tt tt tt tt tt
+    (subst T (sym (union-clauses k (λ i. false))) (rw (any-none (range 1 k)) tt))
+
+same-clauses : (v u : ℕ → Bool) → ((i : ℕ) → v i ≡ u i) → (cs : List (List Literal)) → clausesAt v cs ≡ clausesAt u cs
+unfolding clausesAt literalAt
+same-clauses v u h cs = every-same (any (literalAt v)) (any (literalAt u)) (any-same (literalAt v) (literalAt u) literal) cs
+  where
+    literal : (l : Literal) → literalAt v l ≡ literalAt u l
+    literal (Pos i) = h i
+    literal (Neg i) = ap not (h i)
+
+pub meaning-below : (c : Constraint) → T (codeInRange c) → T (hasMembers c) → (n : ℕ) (d : List ℕ) → ((g : ℕ) → setOf d g < 2 ^ n)
+    → T (constraintTrue d c) ↔ ((e : ℕ) → e < n → T (clausesHold d c e))
+unfolding codeInRange clausesHold
+meaning-below c r h n d small =
+    let is = meaning-clauses c r h d in
+    ((λ t e l. is .0 t e), (λ k. is .1 (λ e. go e k (decLt e n))))
+  where
+    go : (e : ℕ) → ((e : ℕ) → e < n → T (clausesHold d c e)) → Dec (e < n) → T (clausesHold d c e)
+    go e k (yes l) = k e l
+    go e k (no f) =
+        subst T
+          (sym (over-members (λ g. has (setOf d g) e) c
+          ∙ same-clauses (λ i. has (setOf d (getD (c .groups) i 0)) e) (λ i. false)
+            (λ i. has-past n (setOf d (getD (c .groups) i 0)) e (small (getD (c .groups) i 0)) (omega arith))
+            (memberClauses (c .code) (c .count))))
+          (none (c .count) (c .code) (and-left (between 1 6 (c .code)) (not (eqb (c .code) 6) || between 2 (limits .members - 1) (c .count)) r))
