@@ -3,3 +3,5 @@ pub mod Tables
 pub mod GroupRule
 pub mod ConstraintRule
 pub mod Meaning
+pub mod Ranges
+pub mod Points
