@@ -244,3 +244,12 @@ take-places d l k h = from l k 0 (λ i. getD l i d) h (λ i. ap (λ (j : ℕ). g
     from (x ∷ l) (suc k) a g h e =
         ap₂ {C = List _} (λ y m. y ∷ m) (sym (e 0) ∙ ap g (add-zero a))
           (from l k (suc a) g (omega arith) (λ i. ap g (native.Mathlib.Nat.suc-add a i ∙ sym (add-suc a i)) ∙ e (suc i)))
+
+-- a permutation has the same elements
+pub perm-mem {ℓ} : {A : Type ℓ} {l m : List A} {a : A} → List·Permᴰ l m → List·Memᴰ a l → List·Memᴰ a m
+perm-mem (List·Permᴰ·cons e p) (List·Memᴰ·head q) = List·Memᴰ·head (q ∙ e)
+perm-mem (List·Permᴰ·cons e p) (List·Memᴰ·tail h) = List·Memᴰ·tail (perm-mem p h)
+perm-mem (List·Permᴰ·swap e f) (List·Memᴰ·head q) = List·Memᴰ·tail (List·Memᴰ·head (q ∙ e))
+perm-mem (List·Permᴰ·swap e f) (List·Memᴰ·tail (List·Memᴰ·head q)) = List·Memᴰ·head (q ∙ f)
+perm-mem (List·Permᴰ·swap e f) (List·Memᴰ·tail (List·Memᴰ·tail h)) = List·Memᴰ·tail (List·Memᴰ·tail h)
+perm-mem (List·Permᴰ·trans p q) h = perm-mem q (perm-mem p h)

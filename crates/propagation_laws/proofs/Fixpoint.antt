@@ -8,7 +8,7 @@ use mathlib.Core.List.{List, [], _∷_}
 use lib.Dec.{T}
 use Rattle.model.specs.Lists.{every}
 use Rattle.model.specs.Propagate.{run, Outcome, contradiction, fixpoint, afterPass, iterate}
-use Rattle.model.proofs.Lists.{All, and-left, and-right, and-both, every-all, all-every}
+use Rattle.model.proofs.Lists.{T-true, All, and-left, and-right, and-both, every-all, all-every}
 
 -- what propagation needs of tables: an order, a test that wider tables pass too, a test of equality, a measure that falls
 pub record Frame (X : Type 0) : Type 1 where
@@ -190,6 +190,12 @@ module _ {X : Type 0} (F : Frame X) where
         within-bound (suc fuel) k n x m =
             decide-passes n k x (iterate (F .ok) (F .same) (run rs) fuel (suc k) (run rs x)) (F .ok (run rs x)) (F .same (run rs x) x) refl refl (omega arith)
               (λ c d. within-bound fuel (suc k) n (run rs x) (omega (arith, falls x c d)))
+
+  -- a table that a pass leaves as it is: one pass
+  pub iterate-once : (next : X → X) (fuel k : ℕ) (x : X) → T (F .ok x) → next x ≡ x
+      → iterate (F .ok) (F .same) next (suc fuel) k x ≡ fixpoint (suc k) x
+  unfolding iterate
+  iterate-once next fuel k x c e = rw (e, T-true (F .ok x) c, T-true (F .same x x) (F .same-refl x))
 
   -- ---- more rules or a narrower start: a narrower answer. The same rules in another order: the same table
 

@@ -5,3 +5,4 @@ pub mod ConstraintRule
 pub mod Meaning
 pub mod Ranges
 pub mod Points
+pub mod Propagation
