@@ -226,13 +226,13 @@ module _ {A B : Type 0} (p : B → Bool) (f : A → B) where
   any-map (x ∷ l) = ap (λ b. p (f x) || b) (any-map l)
 
 module _ {A : Type 0} (p q : A → Bool) (h : (a : A) → p a ≡ q a) where
-  pub every-same : (l : List A) → every p l ≡ every q l
-  every-same [] = refl
-  every-same (x ∷ l) = ap₂ _&&_ (h x) (every-same l)
+  pub every-ext : (l : List A) → every p l ≡ every q l
+  every-ext [] = refl
+  every-ext (x ∷ l) = ap₂ _&&_ (h x) (every-ext l)
 
-  pub any-same : (l : List A) → any p l ≡ any q l
-  any-same [] = refl
-  any-same (x ∷ l) = ap₂ _||_ (h x) (any-same l)
+  pub any-ext : (l : List A) → any p l ≡ any q l
+  any-ext [] = refl
+  any-ext (x ∷ l) = ap₂ _||_ (h x) (any-ext l)
 
 -- the first k elements, by their places
 pub take-places : {A : Type 0} (d : A) (l : List A) (k : ℕ) → k ≤ length l → take k l ≡ map (λ i. getD l i d) (range 0 k)
@@ -253,3 +253,15 @@ perm-mem (List·Permᴰ·swap e f) (List·Memᴰ·head q) = List·Memᴰ·tail (
 perm-mem (List·Permᴰ·swap e f) (List·Memᴰ·tail (List·Memᴰ·head q)) = List·Memᴰ·head (q ∙ f)
 perm-mem (List·Permᴰ·swap e f) (List·Memᴰ·tail (List·Memᴰ·tail h)) = List·Memᴰ·tail (List·Memᴰ·tail h)
 perm-mem (List·Permᴰ·trans p q) h = perm-mem q (perm-mem p h)
+
+pub perm-total : {A : Type 0} (f : A → ℕ) {l m : List A} → List·Permᴰ l m → total f l ≡ total f m
+perm-total f List·Permᴰ·nil = refl
+perm-total f (List·Permᴰ·cons e p) = ap₂ (λ (a b : ℕ). a + b) (ap f e) (perm-total f p)
+perm-total f (List·Permᴰ·swap e q) = omega (arith, ap f e, ap f q)
+perm-total f (List·Permᴰ·trans p q) = perm-total f p ∙ perm-total f q
+
+pub perm-length {ℓ} : {A : Type ℓ} {l m : List A} → List·Permᴰ l m → length l ≡ length m
+perm-length List·Permᴰ·nil = refl
+perm-length (List·Permᴰ·cons e p) = ap suc (perm-length p)
+perm-length (List·Permᴰ·swap e f) = refl
+perm-length (List·Permᴰ·trans p q) = perm-length p ∙ perm-length q

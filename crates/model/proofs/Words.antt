@@ -12,7 +12,7 @@ use lib.Arith.{bin-ind, digits-div, digits-mod}
 use lib.Bits.{bitAnd, bitOr, bitXor, differ, and-step, or-step, xor-step}
 use lib.Count.{ones, ones-step, ones-le}
 use lib.Pow.{pow-pos}
-use Rattle.model.specs.Words.{full, less, sizeIn, size, inside, bit, has}
+use Rattle.model.specs.Words.{full, less, sizeIn, size, inside, bit, has, wordWhere}
 
 -- ---- a bit
 
@@ -318,3 +318,48 @@ sub-has a b s e = table (has a e) (has b e) (rw (bit-has e a, bit-has e b) at (s
     table true false l t = absurd (omega arith)
     table false true l t = tt
     table false false l t = t
+
+-- ---- the word of the bits below n that pass a test
+
+pub where-lt : (p : ℕ → Bool) (n : ℕ) → wordWhere p n < 2 ^ n
+unfolding wordWhere
+where-lt p zero = omega arith
+where-lt p (suc n) = go (p n) (where-lt p n)
+  where
+    go : (b : Bool) → wordWhere p n < 2 ^ n → wordWhere p n + cond b (2 ^ n) 0 < 2 ^ suc n
+    go true h = omega arith
+    go false h = omega arith
+
+bit-below : (n e a : ℕ) → a < 2 ^ n → e < n → bit e (a + 2 ^ n) ≡ bit e a
+bit-below zero e a h l = omega arith
+bit-below (suc n) zero a h l = rw (bit-first (a + 2 ^ suc n), bit-first a) (omega arith)
+bit-below (suc n) (suc e) a h l =
+    rw (bit-next e (a + 2 ^ suc n), bit-next e a) (ap (bit e) (omega arith) ∙ bit-below n e (a / 2) (omega arith) (omega arith))
+
+bit-top : (n a : ℕ) → a < 2 ^ n → bit n (a + 2 ^ n) ≡ 1
+bit-top zero a h = rw (bit-first (a + 2 ^ 0)) (omega arith)
+bit-top (suc n) a h = rw (bit-next n (a + 2 ^ suc n)) (ap (bit n) (omega arith) ∙ bit-top n (a / 2) (omega arith))
+
+pub has-where : (p : ℕ → Bool) (n e : ℕ) → e < n → has (wordWhere p n) e ≡ p e
+unfolding wordWhere
+has-where p zero e l = absurd (omega arith)
+has-where p (suc n) e l = go (decLt e n) (p n) refl (has-where p n e)
+  where
+    w : ℕ
+    w = wordWhere p n
+    go : Dec (e < n) → (b : Bool) → p n ≡ b → (e < n → has w e ≡ p e) → has (w + cond b (2 ^ n) 0) e ≡ p e
+    go (yes k) true q ih = has-bit e (w + 2 ^ n) (p e) (bit-below n e w (where-lt p n) k ∙ bit-has e w ∙ ap (λ (b : Bool). cond b 1 0) (ih k))
+    go (yes k) false q ih = ap (λ (x : ℕ). has x e) (native.Mathlib.Nat.add-zero w) ∙ ih k
+    go (no f) true q ih =
+        let i : e ≡ n = omega arith in
+        rw i (has-bit n (w + 2 ^ n) (p n) (bit-top n w (where-lt p n) ∙ sym (ap (λ (b : Bool). cond b 1 0) q)))
+    go (no f) false q ih =
+        let i : e ≡ n = omega arith in
+        rw (i, native.Mathlib.Nat.add-zero w, q) (has-past n w n (where-lt p n) (le-refl n))
+
+pub where-sub : (p q : ℕ → Bool) (n : ℕ) → ((e : ℕ) → T (p e) → T (q e)) → Sub (wordWhere p n) (wordWhere q n)
+where-sub p q n h = has-sub (wordWhere p n) (wordWhere q n) (λ e. go e (decLt e n))
+  where
+    go : (e : ℕ) → Dec (e < n) → T (has (wordWhere p n) e) → T (has (wordWhere q n) e)
+    go e (yes l) t = rw (has-where q n e l) (h e (rw (has-where p n e l) at t))
+    go e (no f) t = absurd (rw (has-past n (wordWhere p n) e (where-lt p n) (omega arith)) at t)

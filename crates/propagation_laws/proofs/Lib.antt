@@ -6,3 +6,4 @@ pub mod Meaning
 pub mod Ranges
 pub mod Points
 pub mod Propagation
+pub mod Lines

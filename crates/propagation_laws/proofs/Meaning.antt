@@ -7,7 +7,7 @@ use native.Mathlib.Omega.{arith}
 use native.Mathlib.Decide.{decLt}
 use mathlib.Core.Bool.{Bool, true, false, cond, not, _&&_, _||_}
 use mathlib.Core.List.{List, [], _∷_, _++_, map, map-map}
-use lib.Dec.{T, leb, eqb, eqb→eq, eqb-refl, leb→le}
+use lib.Dec.{T, leb, eqb, eqb→eq, eqb-refl, leb→le, lit≤}
 use lib.Bits.{bitAnd, bitOr}
 use lib.ListN.{length, getD, take}
 use Rattle.model.specs.declared.Literal.{Literal}
@@ -19,7 +19,7 @@ use Rattle.model.specs.Clauses.{memberCount, shortClauses, unionClauses, member
 use Rattle.model.specs.Model.{codeInRange}
 use Rattle.model.specs.Limits.{limits}
 use Rattle.model.specs.Solution.{union, meaning, setOf, constraintTrue}
-use Rattle.model.proofs.Lists.{T-true, true-T, T-ext, and-left, and-right, and-both, any-append, every-map, any-map, every-same, any-same, take-places}
+use Rattle.model.proofs.Lists.{T-true, true-T, T-ext, and-left, and-right, and-both, any-append, every-map, any-map, every-ext, any-ext, take-places}
 use Rattle.model.proofs.Words.{has-zero, has-and, has-or, has-less, has-past, has-ext, has-sub, sub-has, inside-sub, sub-inside}
 
 -- ---- literals, clauses and constraints for one entrant: v says in which groups the entrant is
@@ -46,9 +46,9 @@ pub over-members : (v : ℕ → Bool) (c : Constraint)
 unfolding clausesAt clausesOf
 over-members v c =
     every-map (any (literalAt v)) (map (ofGroup (c .groups))) (memberClauses (c .code) (c .count))
-    ∙ every-same (λ ls. any (literalAt v) (map (ofGroup (c .groups)) ls)) (any (literalAt (λ i. v (getD (c .groups) i 0))))
+    ∙ every-ext (λ ls. any (literalAt v) (map (ofGroup (c .groups)) ls)) (any (literalAt (λ i. v (getD (c .groups) i 0))))
       (λ ls. any-map (literalAt v) (ofGroup (c .groups)) ls
-        ∙ any-same (λ l. literalAt v (ofGroup (c .groups) l)) (literalAt (λ i. v (getD (c .groups) i 0))) (of-group v (c .groups)) ls)
+        ∙ any-ext (λ l. literalAt v (ofGroup (c .groups) l)) (literalAt (λ i. v (getD (c .groups) i 0))) (of-group v (c .groups)) ls)
       (memberClauses (c .code) (c .count))
 
 -- ---- the union
@@ -130,7 +130,7 @@ module _ (says : Bool → Bool → Bool → Bool) (value : Bool → Bool → Boo
 
 -- ---- each code; the set of member i is S i
 
-by-code : (P : ℕ → Type 0) → P 1 → P 2 → P 3 → P 4 → P 5 → P 6 → (code : ℕ) → T (between 1 6 code) → P code
+pub by-code : (P : ℕ → Type 0) → P 1 → P 2 → P 3 → P 4 → P 5 → P 6 → (code : ℕ) → T (between 1 6 code) → P code
 by-code P a b c d e f zero t = absurd t
 by-code P a b c d e f (suc zero) t = a
 by-code P a b c d e f (suc (suc zero)) t = b
@@ -206,6 +206,18 @@ module _ (k : ℕ) (S : ℕ → ℕ) where
 unfoldable pub hasMembers : Constraint → Bool
 hasMembers c = leb (memberCount (c .code) (c .count)) (length (c .groups))
 
+-- at most 17
+pub member-bound : (c : Constraint) → T (codeInRange c) → memberCount (c .code) (c .count) ≤ limits .members
+unfolding codeInRange
+member-bound c r =
+    let k = c .count in
+    let a = between 1 6 (c .code) in
+    let b = not (eqb (c .code) 6) || between 2 (limits .members - 1) k in
+    by-code (λ code. T (not (eqb code 6) || between 2 (limits .members - 1) k) → memberCount code k ≤ limits .members)
+      (λ t. unfold memberCount in lit≤ tt) (λ t. unfold memberCount in lit≤ tt) (λ t. unfold memberCount in lit≤ tt) (λ t. unfold memberCount in lit≤ tt)
+      (λ t. unfold memberCount in lit≤ tt)
+      (λ t. unfold memberCount in (let h = leb→le k 16 (and-right (leb 2 k) (leb k 16) t) in omega arith)) (c .code) (and-left a b r) (and-right a b r)
+
 pub meaning-clauses : (c : Constraint) → T (codeInRange c) → T (hasMembers c) → (d : List ℕ)
     → T (constraintTrue d c) ↔ ((e : ℕ) → T (clausesHold d c e))
 unfolding codeInRange hasMembers constraintTrue groupsOf clausesHold
@@ -234,7 +246,7 @@ none k = by-code (λ code. T (clausesAt (λ i. false) (memberClauses code k))) t
 
 same-clauses : (v u : ℕ → Bool) → ((i : ℕ) → v i ≡ u i) → (cs : List (List Literal)) → clausesAt v cs ≡ clausesAt u cs
 unfolding clausesAt literalAt
-same-clauses v u h cs = every-same (any (literalAt v)) (any (literalAt u)) (any-same (literalAt v) (literalAt u) literal) cs
+same-clauses v u h cs = every-ext (any (literalAt v)) (any (literalAt u)) (any-ext (literalAt v) (literalAt u) literal) cs
   where
     literal : (l : Literal) → literalAt v l ≡ literalAt u l
     literal (Pos i) = h i
