@@ -9,6 +9,7 @@ use mathlib.Core.Bool.{Bool, true, false, not, _&&_, _||_}
 use mathlib.Core.List.{List, [], _∷_, _++_, map, append-assoc, List·Memᴰ, List·Memᴰ·head, List·Memᴰ·tail, List·Permᴰ, List·Permᴰ·nil, List·Permᴰ·cons, List·Permᴰ·swap, List·Permᴰ·trans}
 use lib.Dec.{T}
 use lib.ListN.{length, getD, set, take, drop, length-append, length-take}
+use lib.Seq.{sets, sets-eq, take-at}
 use Rattle.model.specs.Lists.{every, any, pairwise, each, total, range, onPlace}
 
 -- ---- tests as facts
@@ -265,3 +266,27 @@ perm-length List·Permᴰ·nil = refl
 perm-length (List·Permᴰ·cons e p) = ap suc (perm-length p)
 perm-length (List·Permᴰ·swap e f) = refl
 perm-length (List·Permᴰ·trans p q) = perm-length p ∙ perm-length q
+
+-- ---- a test kept by parts and by stores
+
+module _ {A : Type 0} (p : A → Bool) where
+  pub every-take : (k : ℕ) (l : List A) → T (every p l) → T (every p (take k l))
+  every-take zero l t = tt
+  every-take (suc k) [] t = tt
+  every-take (suc k) (x ∷ l) t =
+      and-both (p x) (every p (take k l)) (and-left (p x) (every p l) t) (every-take k l (and-right (p x) (every p l) t))
+
+  pub every-set : (l : List A) (i : ℕ) (a : A) → T (every p l) → T (p a) → T (every p (set l i a))
+  every-set [] i a t s = tt
+  every-set (x ∷ l) zero a t s = and-both (p a) (every p l) s (and-right (p x) (every p l) t)
+  every-set (x ∷ l) (suc i) a t s =
+      and-both (p x) (every p (set l i a)) (and-left (p x) (every p l) t) (every-set l i a (and-right (p x) (every p l) t) s)
+
+  pub every-sets : (vs l : List A) (i : ℕ) → T (every p l) → T (every p vs) → T (every p (sets l i vs))
+  every-sets [] l i t s = t
+  every-sets (a ∷ vs) l i t s =
+      every-sets vs (set l i a) (suc i) (every-set l i a t (and-left (p a) (every p vs) s)) (and-right (p a) (every p vs) s)
+
+-- the first elements after a run of stores
+pub take-sets : {A : Type 0} (vs l : List A) (k : ℕ) → length vs ≡ k → k ≤ length l → take k (sets l 0 vs) ≡ vs
+take-sets vs l k e h = ap (take k) (sets-eq vs l 0 (omega arith)) ∙ take-at vs (drop (0 + length vs) l) k e

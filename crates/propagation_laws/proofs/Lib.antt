@@ -7,3 +7,4 @@ pub mod Ranges
 pub mod Points
 pub mod Propagation
 pub mod Lines
+pub mod Sheets
