@@ -207,7 +207,7 @@ module _ {A : Type 0} (p : A → A → Bool) where
       let a = p x y in
       let b = p y z in
       and-both (p x z) (pairwise p xs zs) (f x y z (and-left a (pairwise p xs ys) s) (and-left b (pairwise p ys zs) t))
-        (pairwise-trans f xs ys zs (and-right a (pairwise p xs ys) s) (and-right b (pairwise p ys zs) t))
+      (pairwise-trans f xs ys zs (and-right a (pairwise p xs ys) s) (and-right b (pairwise p ys zs) t))
 
 pub pairwise-length : {A B : Type 0} (p : A → B → Bool) (x : List A) (y : List B) → T (pairwise p x y) → length x ≡ length y
 pairwise-length p [] [] t = refl
@@ -244,7 +244,7 @@ take-places d l k h = from l k 0 (λ i. getD l i d) h (λ i. ap (λ (j : ℕ). g
     from [] (suc k) a g h e = absurd (omega arith)
     from (x ∷ l) (suc k) a g h e =
         ap₂ {C = List _} (λ y m. y ∷ m) (sym (e 0) ∙ ap g (add-zero a))
-          (from l k (suc a) g (omega arith) (λ i. ap g (native.Mathlib.Nat.suc-add a i ∙ sym (add-suc a i)) ∙ e (suc i)))
+        (from l k (suc a) g (omega arith) (λ i. ap g (native.Mathlib.Nat.suc-add a i ∙ sym (add-suc a i)) ∙ e (suc i)))
 
 -- a permutation has the same elements
 pub perm-mem {ℓ} : {A : Type ℓ} {l m : List A} {a : A} → List·Permᴰ l m → List·Memᴰ a l → List·Memᴰ a m
@@ -290,3 +290,21 @@ module _ {A : Type 0} (p : A → Bool) where
 -- the first elements after a run of stores
 pub take-sets : {A : Type 0} (vs l : List A) (k : ℕ) → length vs ≡ k → k ≤ length l → take k (sets l 0 vs) ≡ vs
 take-sets vs l k e h = ap (take k) (sets-eq vs l 0 (omega arith)) ∙ take-at vs (drop (0 + length vs) l) k e
+
+-- ---- k elements in front of the others
+
+pub front-take : {A : Type 0} (k : ℕ) (t l : List A) → length t ≡ length (take k l) → take k (t ++ drop k l) ≡ t
+front-take zero [] l h = refl
+front-take zero (x ∷ t) l h = absurd (omega arith)
+front-take (suc k) [] [] h = refl
+front-take (suc k) (x ∷ t) [] h = absurd (omega arith)
+front-take (suc k) [] (y ∷ l) h = absurd (omega arith)
+front-take (suc k) (x ∷ t) (y ∷ l) h = ap {B = List _} (λ r. x ∷ r) (front-take k t l (omega arith))
+
+pub front-drop : {A : Type 0} (k : ℕ) (t l : List A) → length t ≡ length (take k l) → drop k (t ++ drop k l) ≡ drop k l
+front-drop zero [] l h = refl
+front-drop zero (x ∷ t) l h = absurd (omega arith)
+front-drop (suc k) [] [] h = refl
+front-drop (suc k) (x ∷ t) [] h = absurd (omega arith)
+front-drop (suc k) [] (y ∷ l) h = absurd (omega arith)
+front-drop (suc k) (x ∷ t) (y ∷ l) h = front-drop k t l (omega arith)

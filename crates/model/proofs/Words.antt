@@ -347,6 +347,7 @@ has-where p (suc n) e l = go (decLt e n) (p n) refl (has-where p n e)
   where
     w : ℕ
     w = wordWhere p n
+
     go : Dec (e < n) → (b : Bool) → p n ≡ b → (e < n → has w e ≡ p e) → has (w + cond b (2 ^ n) 0) e ≡ p e
     go (yes k) true q ih = has-bit e (w + 2 ^ n) (p e) (bit-below n e w (where-lt p n) k ∙ bit-has e w ∙ ap (λ (b : Bool). cond b 1 0) (ih k))
     go (yes k) false q ih = ap (λ (x : ℕ). has x e) (native.Mathlib.Nat.add-zero w) ∙ ih k

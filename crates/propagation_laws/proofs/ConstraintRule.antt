@@ -1,22 +1,19 @@
 -- The constraint rule is a rule of the frame of tables, whatever the clauses, so for every code; and so are all rules of a model. Assumes nothing.
-use mathlib.Core.Path.{_≡_, refl, sym, ap, _∙_, subst}
-use Prim.Native.Nat.{ℕ, zero, suc, _+_, _-_, _≤_, _<_, min, max}
+use mathlib.Core.Path.{_≡_, ap, subst}
+use Prim.Native.Nat.{ℕ, _-_}
 use native.Mathlib.Nat.{le-refl}
 use native.Mathlib.Omega.{arith}
-use mathlib.Core.Bool.{Bool, true, false}
 use mathlib.Core.List.{List, [], _∷_, _++_, map, List·Memᴰ}
 use lib.Dec.{T}
-use lib.Bits.{bitAnd, bitOr}
 use Rattle.model.specs.declared.Literal.{Literal}
 use Rattle.model.specs.declared.Literal.the-variants.{Pos, Neg}
 use Rattle.model.specs.declared.Group.{Group}
 use Rattle.model.specs.declared.Constraint.{Constraint}
-use Rattle.model.specs.Lists.{pairwise, range, onPlace}
-use Rattle.model.specs.Words.{full, less, bit}
+use Rattle.model.specs.Lists.{range}
+use Rattle.model.specs.Words.{full, bit}
 use Rattle.model.specs.Clauses.{clausesOf}
 use Rattle.model.specs.Model.{zeroGroup, groupAt}
-use Rattle.model.specs.Propagate.{groupRule, falseIn, allFalse, fixedWith, possibleWithout, madeTrue, literalRule, run, clauseRules, clauseRule, constraintRule, groupRuleAt, rules}
-use Rattle.model.specs.Demand.{groupWithin}
+use Rattle.model.specs.Propagate.{groupRule, falseIn, allFalse, fixedWith, possibleWithout, madeTrue, literalRule, clauseRules, clauseRule, constraintRule, groupRuleAt, rules}
 use Rattle.model.proofs.Lists.{All, all-of, all-append, all-left, all-right, all-map, map-all, all-at, all-mem}
 use Rattle.model.proofs.Words.{Sub, sub-refl, sub-trans, sub-or-l, sub-or-r, sub-or, sub-less, bit-less, bit-and}
 use Rattle.propagation_laws.proofs.Fixpoint.{Frame, Rule, run-rule, Unchanged}
@@ -94,10 +91,10 @@ made-keeps : (l : Literal) (m k : ℕ) → Sub k m → (u x : List Group) → T 
 unfolding madeTrue
 made-keeps (Pos g) m k s =
     place-keeps groupFrame (g - 1) (fixedWith m) (fixedWith k)
-      (λ u x c e w. is-within u (fixedWith k x) (fixed-keeps m k s u x (narrow u x w) e))
+    (λ u x c e w. is-within u (fixedWith k x) (fixed-keeps m k s u x (narrow u x w) e))
 made-keeps (Neg g) m k s =
     place-keeps groupFrame (g - 1) (possibleWithout m) (possibleWithout k)
-      (λ u x c e w. is-within u (possibleWithout k x) (possible-keeps m k s u x (narrow u x w) e))
+    (λ u x c e w. is-within u (possibleWithout k x) (possible-keeps m k s u x (narrow u x w) e))
 
 pub literal-rule : (n : ℕ) (l : Literal) (others : List Literal) → Rule tableFrame (literalRule n l others)
 unfolding literalRule
@@ -122,7 +119,7 @@ pub constraint-rule : (n : ℕ) (c : Constraint) → Rule tableFrame (constraint
 unfolding constraintRule
 constraint-rule n c =
     run-rule tableFrame (map (clauseRule n) (clausesOf c))
-      (all-map (Rule tableFrame) (clauseRule n) (clausesOf c) (all-of (λ l. Rule tableFrame (clauseRule n l)) (clause-rule n) (clausesOf c)))
+    (all-map (Rule tableFrame) (clauseRule n) (clausesOf c) (all-of (λ l. Rule tableFrame (clauseRule n l)) (clause-rule n) (clausesOf c)))
 
 pub group-rule-at : (g : ℕ) → Rule tableFrame (groupRuleAt g)
 unfolding groupRuleAt
@@ -132,8 +129,8 @@ pub all-rules : (n s : ℕ) (cs : List Constraint) → All (Rule tableFrame) (ru
 unfolding rules
 all-rules n s cs =
     all-append (Rule tableFrame) (map groupRuleAt (range 1 s)) (map (constraintRule n) cs)
-      (all-map (Rule tableFrame) groupRuleAt (range 1 s) (all-of (λ g. Rule tableFrame (groupRuleAt g)) group-rule-at (range 1 s)))
-      (all-map (Rule tableFrame) (constraintRule n) cs (all-of (λ c. Rule tableFrame (constraintRule n c)) (constraint-rule n) cs))
+    (all-map (Rule tableFrame) groupRuleAt (range 1 s) (all-of (λ g. Rule tableFrame (groupRuleAt g)) group-rule-at (range 1 s)))
+    (all-map (Rule tableFrame) (constraintRule n) cs (all-of (λ c. Rule tableFrame (constraintRule n c)) (constraint-rule n) cs))
 
 -- ---- the rules of some of the constraints
 
@@ -145,4 +142,4 @@ fewer-rules n s cs ds f u h =
     let gs = map groupRuleAt (range 1 s) in
     let some = map-all P (constraintRule n) cs (all-right P gs (map (constraintRule n) cs) h) in
     all-append P gs (map (constraintRule n) ds) (all-left P gs (map (constraintRule n) cs) h)
-      (all-map P (constraintRule n) ds (all-mem (λ c. constraintRule n c u ≡ u) ds (λ c m. all-at (λ d. constraintRule n d u ≡ u) (f c m) some)))
+    (all-map P (constraintRule n) ds (all-mem (λ c. constraintRule n c u ≡ u) ds (λ c m. all-at (λ d. constraintRule n d u ≡ u) (f c m) some)))

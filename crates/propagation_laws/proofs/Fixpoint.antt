@@ -4,11 +4,11 @@ use Prim.Native.Nat.{ℕ, zero, suc, _+_, _≤_, _<_}
 use native.Mathlib.Nat.{not-suc-le-zero}
 use native.Mathlib.Omega.{arith}
 use mathlib.Core.Bool.{Bool, true, false, _&&_}
-use mathlib.Core.List.{List, [], _∷_}
+use mathlib.Core.List.{List, [], _∷_, List·Permᴰ, Permᴰ·symm}
 use lib.Dec.{T}
 use Rattle.model.specs.Lists.{every}
 use Rattle.model.specs.Propagate.{run, Outcome, contradiction, fixpoint, afterPass, iterate}
-use Rattle.model.proofs.Lists.{T-true, All, and-left, and-right, and-both, every-all, all-every}
+use Rattle.model.proofs.Lists.{T-true, All, and-left, and-right, and-both, every-all, all-every, all-perm}
 
 -- what propagation needs of tables: an order, a test that wider tables pass too, a test of equality, a measure that falls
 pub record Frame (X : Type 0) : Type 1 where
@@ -83,7 +83,7 @@ module _ {X : Type 0} (F : Frame X) where
       let a = F .ok u in
       let b = every (λ r. F .same (r u) u) rs in
       and-both (a && b) (F .within u x)
-        (and-both a b (c .consistent) (all-every (λ r. F .same (r u) u) rs (all-same u rs (c .unchanged)))) (c .inside)
+      (and-both a b (c .consistent) (all-every (λ r. F .same (r u) u) rs (all-same u rs (c .unchanged)))) (c .inside)
 
   -- ---- rules one after the other
 
@@ -100,7 +100,7 @@ module _ {X : Type 0} (F : Frame X) where
   run-unchanged [] h x e = tt
   run-unchanged (r ∷ rs) h x e =
       let same : r x ≡ x = F .w-antisym (r x) x (h .0 x)
-            (subst (λ (z : X). T (F .within z (r x))) e (run-reduces rs (h .1) (r x))) in
+      (subst (λ (z : X). T (F .within z (r x))) e (run-reduces rs (h .1) (r x))) in
       (same, run-unchanged rs (h .1) x (ap (run rs) (sym same) ∙ e))
 
   pub run-fixed : (rs : List (X → X)) (x : X) → Unchanged rs x → run rs x ≡ x
@@ -129,17 +129,17 @@ module _ {X : Type 0} (F : Frame X) where
     after-pass x u t =
         let c = parts rs x u t in
         whole rs (run rs x) u
-          (record { consistent = c .consistent; unchanged = c .unchanged; inside = run-keeps rs h u x (c .consistent) (c .unchanged) (c .inside) })
+        (record { consistent = c .consistent; unchanged = c .unchanged; inside = run-keeps rs h u x (c .consistent) (c .unchanged) (c .inside) })
 
     before-pass : (x u : X) → T (candidate rs (run rs x) u) → T (candidate rs x u)
     before-pass x u t =
         let c = parts rs (run rs x) u t in
         whole rs x u
-          (record {
-            consistent = c .consistent;
-            unchanged = c .unchanged;
-            inside = F .w-trans u (run rs x) x (c .inside) (run-reduces rs (all-reduce rs h) x);
-          })
+        (record {
+          consistent = c .consistent;
+          unchanged = c .unchanged;
+          inside = F .w-trans u (run rs x) x (c .inside) (run-reduces rs (all-reduce rs h) x);
+        })
 
     earlier : (x : X) (o : Outcome X) → Answer rs (run rs x) o → Answer rs x o
     earlier x contradiction a = λ u t. a u (after-pass x u t)
@@ -171,7 +171,7 @@ module _ {X : Type 0} (F : Frame X) where
     iterate-answer zero k x m = absurd (not-suc-le-zero m)
     iterate-answer (suc fuel) k x m =
         decide x (iterate (F .ok) (F .same) (run rs) fuel (suc k) (run rs x)) k (F .ok (run rs x)) (F .same (run rs x) x) refl refl
-          (λ c d. iterate-answer fuel (suc k) (run rs x) (omega (arith, falls x c d)))
+        (λ c d. iterate-answer fuel (suc k) (run rs x) (omega (arith, falls x c d)))
 
     -- ---- the passes: at most the measure and one
 
@@ -189,7 +189,7 @@ module _ {X : Type 0} (F : Frame X) where
         within-bound zero k n x m = tt
         within-bound (suc fuel) k n x m =
             decide-passes n k x (iterate (F .ok) (F .same) (run rs) fuel (suc k) (run rs x)) (F .ok (run rs x)) (F .same (run rs x) x) refl refl (omega arith)
-              (λ c d. within-bound fuel (suc k) n (run rs x) (omega (arith, falls x c d)))
+            (λ c d. within-bound fuel (suc k) n (run rs x) (omega (arith, falls x c d)))
 
   -- a table that a pass leaves as it is: one pass
   pub iterate-once : (next : X → X) (fuel k : ℕ) (x : X) → T (F .ok x) → next x ≡ x
@@ -227,7 +227,12 @@ module _ {X : Type 0} (F : Frame X) where
   narrower-both (fixpoint j x) contradiction a b = a
   narrower-both (fixpoint j x) (fixpoint k y) a b = F .w-antisym x y a b
 
-  pub any-order : (rs ss : List (X → X)) → ((u : X) → Unchanged rs u → Unchanged ss u) → ((u : X) → Unchanged ss u → Unchanged rs u)
-      → (x : X) (o p : Outcome X) → Answer rs x o → Answer ss x p → SameTable o p
-  any-order rs ss f g x o p a b =
-      narrower-both o p (narrower rs ss f x x o p (F .w-refl x) a b) (narrower ss rs g x x p o (F .w-refl x) b a)
+  pub any-order : (rs ss : List (X → X)) → All Rule rs → List·Permᴰ rs ss → (fuel j k : ℕ) (x : X) → F .measure x < fuel
+      → SameTable (iterate (F .ok) (F .same) (run rs) fuel j x) (iterate (F .ok) (F .same) (run ss) fuel k x)
+  any-order rs ss h p fuel j k x m =
+      let o = iterate (F .ok) (F .same) (run rs) fuel j x in
+      let q = iterate (F .ok) (F .same) (run ss) fuel k x in
+      let a = iterate-answer rs h fuel j x m in
+      let b = iterate-answer ss (all-perm Rule p h) fuel k x m in
+      narrower-both o q (narrower rs ss (λ u. all-perm (λ r. r u ≡ u) p) x x o q (F .w-refl x) a b)
+      (narrower ss rs (λ u. all-perm (λ r. r u ≡ u) (Permᴰ·symm p)) x x q o (F .w-refl x) b a)

@@ -1,6 +1,6 @@
 -- The group rule is a rule of the frame of groups: it narrows, and keeps what it leaves as it is. Assumes nothing.
-use mathlib.Core.Path.{_≡_, refl, sym, ap, _∙_, subst}
-use Prim.Native.Nat.{ℕ, zero, suc, _+_, _-_, _≤_, _<_, min, max}
+use mathlib.Core.Path.{_≡_, refl, sym, ap, subst}
+use Prim.Native.Nat.{ℕ, _+_, _-_, _≤_, _<_}
 use native.Mathlib.Nat.{le-refl, le-trans, le-antisymm, lt-of-not-le}
 use native.Mathlib.Omega.{arith}
 use mathlib.Core.Bool.{Bool, true, false, cond, _&&_}
@@ -10,7 +10,7 @@ use lib.Dec.{T, eqb, leb, eqb→eq, eqb-refl, leb→le, le→leb}
 use lib.Bits.{bitAnd, bitOr}
 use Rattle.model.specs.declared.Group.{Group}
 use Rattle.model.specs.Words.{size, inside}
-use Rattle.model.specs.Propagate.{limited, cut, filled, groupRule, run, groupConsistent, sameGroup}
+use Rattle.model.specs.Propagate.{limited, cut, filled, groupRule, groupConsistent, sameGroup}
 use Rattle.model.specs.Demand.{groupWithin}
 use Rattle.model.proofs.Lists.{All, and-left, and-right, and-both}
 use Rattle.model.proofs.Words.{Sub, sub-refl, sub-trans, sub-antisym, sub-or-l, sub-or-r, sub-or, sub-and-l, sub-and-r, sub-and, inside-sub, sub-inside, size-mono, size-eq}
@@ -50,9 +50,9 @@ is-within u t w =
     let b = inside (u .possible) (t .possible) in
     let c = leb (t .low) (u .low) in
     and-both (a && b && c) (leb (u .high) (t .high))
-      (and-both (a && b) c (and-both a b (sub-inside (t .fixed) (u .fixed) (w .fix)) (sub-inside (u .possible) (t .possible) (w .pos)))
-        (le→leb (t .low) (u .low) (w .lo)))
-      (le→leb (u .high) (t .high) (w .hi))
+    (and-both (a && b) c (and-both a b (sub-inside (t .fixed) (u .fixed) (w .fix)) (sub-inside (u .possible) (t .possible) (w .pos)))
+    (le→leb (t .low) (u .low) (w .lo)))
+    (le→leb (u .high) (t .high) (w .hi))
 
 pub sound : (g : Group) → T (groupConsistent g) → Sound g
 unfolding groupConsistent
@@ -65,7 +65,7 @@ pub is-consistent : (g : Group) → Sound g → T (groupConsistent g)
 unfolding groupConsistent
 is-consistent g s =
     and-both (inside (g .fixed) (g .possible)) (leb (g .low) (g .high)) (sub-inside (g .fixed) (g .possible) (s .fits))
-      (le→leb (g .low) (g .high) (s .order))
+    (le→leb (g .low) (g .high) (s .order))
 
 pub group-eq : (u t : Group) → u .fixed ≡ t .fixed → u .possible ≡ t .possible → u .low ≡ t .low → u .high ≡ t .high → u ≡ t
 group-eq u t p q r s = λ i. record { fixed = p i; possible = q i; low = r i; high = s i }
@@ -98,10 +98,10 @@ same-group x y t =
     let c = eqb (x .low) (y .low) in
     let d = eqb (x .high) (y .high) in
     group-eq x y
-      (eqb→eq (x .fixed) (y .fixed) (and-left a b (and-left (a && b) c (and-left (a && b && c) d t))))
-      (eqb→eq (x .possible) (y .possible) (and-right a b (and-left (a && b) c (and-left (a && b && c) d t))))
-      (eqb→eq (x .low) (y .low) (and-right (a && b) c (and-left (a && b && c) d t)))
-      (eqb→eq (x .high) (y .high) (and-right (a && b && c) d t))
+    (eqb→eq (x .fixed) (y .fixed) (and-left a b (and-left (a && b) c (and-left (a && b && c) d t))))
+    (eqb→eq (x .possible) (y .possible) (and-right a b (and-left (a && b) c (and-left (a && b && c) d t))))
+    (eqb→eq (x .low) (y .low) (and-right (a && b) c (and-left (a && b && c) d t)))
+    (eqb→eq (x .high) (y .high) (and-right (a && b && c) d t))
 
 pub same-group-refl : (x : Group) → T (sameGroup x x)
 unfolding sameGroup
@@ -110,7 +110,7 @@ same-group-refl x =
     let b = eqb (x .possible) (x .possible) in
     let c = eqb (x .low) (x .low) in
     and-both (a && b && c) (eqb (x .high) (x .high))
-      (and-both (a && b) c (and-both a b (eqb-refl (x .fixed)) (eqb-refl (x .possible))) (eqb-refl (x .low))) (eqb-refl (x .high))
+    (and-both (a && b) c (and-both a b (eqb-refl (x .fixed)) (eqb-refl (x .possible))) (eqb-refl (x .low))) (eqb-refl (x .high))
 
 -- what may still change in a group
 abbrev pub slack : Group → ℕ
@@ -183,17 +183,20 @@ abbrev steps : List (Group → Group)
 steps = limited ∷ cut ∷ filled ∷ []
 
 steps-reduce : All (Reduces groupFrame) steps
-
 steps-reduce = (
   (λ g. is-within (limited g) g (limited-reduces g)),
   ((λ g. is-within (cut g) g (cut-reduces g)), ((λ g. is-within (filled g) g (filled-reduces g)), tt)),
 )
 
--- ---- a group that no step changes
+-- ---- a group that the rule leaves as it is
 
-limited-calm : (u : Group) → limited u ≡ u → (size (u .fixed) ≤ u .low) × (u .high ≤ size (u .possible))
-unfolding limited
-limited-calm u e = (omega (arith, ap (λ (g : Group). g .low) e), omega (arith, ap (λ (g : Group). g .high) e))
+pub record Calm (u : Group) : Type 0 where
+  pub fits : Sub (u .fixed) (u .possible)
+  pub least : size (u .fixed) ≤ u .low
+  pub order : u .low ≤ u .high
+  pub most : u .high ≤ size (u .possible)
+  pub full : size (u .fixed) ≡ u .high → u .possible ≡ u .fixed
+  pub needed : size (u .possible) ≡ u .low → u .possible ≡ u .fixed
 
 cut-calm : (u : Group) → cut u ≡ u → size (u .fixed) ≡ u .high → Sub (u .possible) (u .fixed)
 unfolding cut
@@ -207,14 +210,30 @@ filled-calm u e h =
     let q : cond (eqb (size (u .possible)) (u .low)) (bitOr (u .fixed) (u .possible)) (u .fixed) ≡ u .fixed = ap (λ (g : Group). g .fixed) e in
     subst (λ (w : ℕ). Sub (u .possible) w) (rw (eq-eqb (size (u .possible)) (u .low) h) at q) (sub-or-r (u .fixed) (u .possible))
 
-module _ (u : Group) (s : u .low ≤ u .high) (el : limited u ≡ u) (ec : cut u ≡ u) (ef : filled u ≡ u) where
+pub calm : (u : Group) → T (groupConsistent u) → groupRule u ≡ u → Calm u
+unfolding groupRule limited
+calm u c e =
+    let k = run-unchanged groupFrame steps steps-reduce u e in
+    let s = sound u c in
+    record {
+      fits = s .fits;
+      least = omega (arith, ap (λ (g : Group). g .low) (k .0));
+      order = s .order;
+      most = omega (arith, ap (λ (g : Group). g .high) (k .0));
+      full = λ h. sub-antisym (cut-calm u (k .1 .0) h) (s .fits);
+      needed = λ h. sub-antisym (filled-calm u (k .1 .1 .0) h) (s .fits);
+    }
+
+-- ---- what the rule keeps
+
+module _ (u : Group) (k : Calm u) where
   limited-keeps : (x : Group) → Narrow u x → Narrow u (limited x)
   unfolding limited
   limited-keeps x w = record {
     fix = w .fix;
     pos = w .pos;
-    lo = omega (arith, w .lo, size-mono (w .fix), limited-calm u el .0);
-    hi = omega (arith, w .hi, size-mono (w .pos), limited-calm u el .1);
+    lo = omega (arith, w .lo, size-mono (w .fix), k .least);
+    hi = omega (arith, w .hi, size-mono (w .pos), k .most);
   }
 
   cut-case : (x : Group) → Narrow u x → (b : Bool) → eqb (size (x .fixed)) (x .high) ≡ b → Sub (u .possible) (cond b (bitAnd (x .possible) (x .fixed)) (x .possible))
@@ -222,9 +241,8 @@ module _ (u : Group) (s : u .low ≤ u .high) (el : limited u ≡ u) (ec : cut u
   cut-case x w true e =
       let full : size (x .fixed) ≡ x .high = eqb-true (size (x .fixed)) (x .high) e in
       let m : size (x .fixed) ≤ size (u .fixed) = size-mono (w .fix) in
-      let k = limited-calm u el in
-      let is : x .fixed ≡ u .fixed = size-eq (w .fix) (omega (arith, w .hi)) in
-      sub-and (w .pos) (subst (λ (y : ℕ). Sub (u .possible) y) (sym is) (cut-calm u ec (omega (arith, w .hi))))
+      let is : x .fixed ≡ u .fixed = size-eq (w .fix) (omega (arith, w .hi, k .least, k .order)) in
+      sub-and (w .pos) (rw (is, k .full (omega (arith, w .hi, k .least, k .order))) (sub-refl (u .fixed)))
 
   cut-keeps : (x : Group) → Narrow u x → Narrow u (cut x)
   unfolding cut
@@ -233,11 +251,10 @@ module _ (u : Group) (s : u .low ≤ u .high) (el : limited u ≡ u) (ec : cut u
   filled-case : (x : Group) → Narrow u x → (b : Bool) → eqb (size (x .possible)) (x .low) ≡ b → Sub (cond b (bitOr (x .fixed) (x .possible)) (x .fixed)) (u .fixed)
   filled-case x w false e = w .fix
   filled-case x w true e =
-      let full : size (x .possible) ≡ x .low = eqb-true (size (x .possible)) (x .low) e in
+      let all : size (x .possible) ≡ x .low = eqb-true (size (x .possible)) (x .low) e in
       let m : size (u .possible) ≤ size (x .possible) = size-mono (w .pos) in
-      let k = limited-calm u el in
-      let is : u .possible ≡ x .possible = size-eq (w .pos) (omega (arith, w .lo)) in
-      sub-or (w .fix) (subst (λ (y : ℕ). Sub y (u .fixed)) is (filled-calm u ef (omega (arith, w .lo))))
+      let is : u .possible ≡ x .possible = size-eq (w .pos) (omega (arith, w .lo, k .most, k .order)) in
+      sub-or (w .fix) (rw (← is, k .needed (omega (arith, w .lo, k .most, k .order))) (sub-refl (u .fixed)))
 
   filled-keeps : (x : Group) → Narrow u x → Narrow u (filled x)
   unfolding filled
@@ -251,7 +268,5 @@ pub group-rule : Rule groupFrame groupRule
 unfolding groupRule
 group-rule = record {
   reduces = run-reduces groupFrame steps steps-reduce;
-  keeps = λ u x c e w.
-      let k = run-unchanged groupFrame steps steps-reduce u e in
-      is-within u (groupRule x) (rule-keeps u (sound u c .order) (k .0) (k .1 .0) (k .1 .1 .0) x (narrow u x w));
+  keeps = λ u x c e w. is-within u (groupRule x) (rule-keeps u (calm u c e) x (narrow u x w));
 }

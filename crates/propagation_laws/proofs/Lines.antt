@@ -1,13 +1,13 @@
 -- Texts and their lines: a text that ends in byte 10 is its lines, each with its byte 10. Assumes nothing.
-use mathlib.Core.Path.{_≡_, refl, sym, ap, ap₂, _∙_, subst}
-use Prim.Native.Nat.{ℕ, zero, suc, _+_, _-_, _≤_, _<_}
+use mathlib.Core.Path.{_≡_, refl, sym, ap, ap₂, _∙_}
+use Prim.Native.Nat.{ℕ, suc, _-_}
 use native.Mathlib.Omega.{arith}
 use mathlib.Core.Bool.{Bool, true, false, cond}
 use mathlib.Core.List.{List, [], _∷_, _++_}
 use borrow.Author.Tests.{eqb-true}
 use lib.Dec.{T, eqb}
-use lib.ListN.{length, getD, length-append}
-use Rattle.model.specs.Lists.{each, total}
+use lib.ListN.{length, getD}
+use Rattle.model.specs.Lists.{total}
 use Rattle.model.specs.Sheet.{onFirst, linesOf}
 use Rattle.model.specs.Demand.{textOf}
 use Rattle.model.proofs.Lists.{T-true, length-each}

@@ -1,12 +1,12 @@
 -- Each code's meaning as sets is what its clauses say of every entrant, both ways, for every code. Assumes nothing.
 use mathlib.Core.Path.{_≡_, refl, sym, ap, ap₂, _∙_, subst}
 use mathlib.Core.Logic.{_↔_}
-use Prim.Native.Nat.{ℕ, zero, suc, _+_, _-_, _^_, _≤_, _<_}
+use Prim.Native.Nat.{ℕ, zero, suc, _-_, _^_, _≤_, _<_}
 use native.Mathlib.Numerals.{add-one}
 use native.Mathlib.Omega.{arith}
 use native.Mathlib.Decide.{decLt}
-use mathlib.Core.Bool.{Bool, true, false, cond, not, _&&_, _||_}
-use mathlib.Core.List.{List, [], _∷_, _++_, map, map-map}
+use mathlib.Core.Bool.{Bool, true, false, not, _&&_, _||_}
+use mathlib.Core.List.{List, [], _∷_, map, map-map}
 use lib.Dec.{T, leb, eqb, eqb→eq, eqb-refl, leb→le, lit≤}
 use lib.Bits.{bitAnd, bitOr}
 use lib.ListN.{length, getD, take}
@@ -14,42 +14,42 @@ use Rattle.model.specs.declared.Literal.{Literal}
 use Rattle.model.specs.declared.Literal.the-variants.{Pos, Neg}
 use Rattle.model.specs.declared.Constraint.{Constraint}
 use Rattle.model.specs.Lists.{every, any, range, between}
-use Rattle.model.specs.Words.{less, inside, has}
+use Rattle.model.specs.Words.{less, has}
 use Rattle.model.specs.Clauses.{memberCount, shortClauses, unionClauses, memberClauses, ofGroup, groupsOf, clausesOf}
 use Rattle.model.specs.Model.{codeInRange}
 use Rattle.model.specs.Limits.{limits}
 use Rattle.model.specs.Solution.{union, meaning, setOf, constraintTrue}
-use Rattle.model.proofs.Lists.{T-true, true-T, T-ext, and-left, and-right, and-both, any-append, every-map, any-map, every-ext, any-ext, take-places}
+use Rattle.model.proofs.Lists.{and-left, and-right, any-append, every-map, any-map, every-ext, any-ext, take-places}
 use Rattle.model.proofs.Words.{has-zero, has-and, has-or, has-less, has-past, has-ext, has-sub, sub-has, inside-sub, sub-inside}
 
 -- ---- literals, clauses and constraints for one entrant: v says in which groups the entrant is
 
-unfoldable pub literalAt : (ℕ → Bool) → Literal → Bool
-literalAt v (Pos g) = v g
-literalAt v (Neg g) = not (v g)
+unfoldable pub literalFor : (ℕ → Bool) → Literal → Bool
+literalFor v (Pos g) = v g
+literalFor v (Neg g) = not (v g)
 
-unfoldable pub clausesAt : (ℕ → Bool) → List (List Literal) → Bool
-clausesAt v cs = every (any (literalAt v)) cs
+unfoldable pub clausesFor : (ℕ → Bool) → List (List Literal) → Bool
+clausesFor v cs = every (any (literalFor v)) cs
 
 unfoldable pub clausesHold : List ℕ → Constraint → ℕ → Bool
-clausesHold d c e = clausesAt (λ g. has (setOf d g) e) (clausesOf c)
+clausesHold d c e = clausesFor (λ g. has (setOf d g) e) (clausesOf c)
 
 -- ---- the clauses over groups are those over members
 
-of-group : (v : ℕ → Bool) (gs : List ℕ) (l : Literal) → literalAt v (ofGroup gs l) ≡ literalAt (λ i. v (getD gs i 0)) l
-unfolding literalAt ofGroup
+of-group : (v : ℕ → Bool) (gs : List ℕ) (l : Literal) → literalFor v (ofGroup gs l) ≡ literalFor (λ i. v (getD gs i 0)) l
+unfolding literalFor ofGroup
 of-group v gs (Pos i) = refl
 of-group v gs (Neg i) = refl
 
 pub over-members : (v : ℕ → Bool) (c : Constraint)
-    → clausesAt v (clausesOf c) ≡ clausesAt (λ i. v (getD (c .groups) i 0)) (memberClauses (c .code) (c .count))
-unfolding clausesAt clausesOf
+    → clausesFor v (clausesOf c) ≡ clausesFor (λ i. v (getD (c .groups) i 0)) (memberClauses (c .code) (c .count))
+unfolding clausesFor clausesOf
 over-members v c =
-    every-map (any (literalAt v)) (map (ofGroup (c .groups))) (memberClauses (c .code) (c .count))
-    ∙ every-ext (λ ls. any (literalAt v) (map (ofGroup (c .groups)) ls)) (any (literalAt (λ i. v (getD (c .groups) i 0))))
-      (λ ls. any-map (literalAt v) (ofGroup (c .groups)) ls
-        ∙ any-ext (λ l. literalAt v (ofGroup (c .groups) l)) (literalAt (λ i. v (getD (c .groups) i 0))) (of-group v (c .groups)) ls)
-      (memberClauses (c .code) (c .count))
+    every-map (any (literalFor v)) (map (ofGroup (c .groups))) (memberClauses (c .code) (c .count))
+    ∙ every-ext (λ ls. any (literalFor v) (map (ofGroup (c .groups)) ls)) (any (literalFor (λ i. v (getD (c .groups) i 0))))
+    (λ ls. any-map (literalFor v) (ofGroup (c .groups)) ls
+    ∙ any-ext (λ l. literalFor v (ofGroup (c .groups) l)) (literalFor (λ i. v (getD (c .groups) i 0))) (of-group v (c .groups)) ls)
+    (memberClauses (c .code) (c .count))
 
 -- ---- the union
 
@@ -74,13 +74,13 @@ none-or x b (i ∷ l) = ap (λ t. (not (x i) || (b || false)) && t) (none-or x b
     table false false false = refl
 
 union-clauses : (k : ℕ) (x : ℕ → Bool)
-    → clausesAt x (unionClauses k) ≡ ((any x (range 1 k) || (not (x 0) || false)) && (not (any x (range 1 k)) || x 0))
-unfolding clausesAt unionClauses literalAt
+    → clausesFor x (unionClauses k) ≡ ((any x (range 1 k) || (not (x 0) || false)) && (not (any x (range 1 k)) || x 0))
+unfolding clausesFor unionClauses literalFor
 union-clauses k x =
     ap₂ _&&_
-      (any-append (literalAt x) (map Pos (range 1 k)) (Neg 0 ∷ [])
-      ∙ ap (λ b. b || (not (x 0) || false)) (any-map (literalAt x) Pos (range 1 k)))
-      (every-map (any (literalAt x)) (λ i. Neg i ∷ Pos 0 ∷ []) (range 1 k) ∙ none-or x (x 0) (range 1 k))
+    (any-append (literalFor x) (map Pos (range 1 k)) (Neg 0 ∷ [])
+    ∙ ap (λ b. b || (not (x 0) || false)) (any-map (literalFor x) Pos (range 1 k)))
+    (every-map (any (literalFor x)) (λ i. Neg i ∷ Pos 0 ∷ []) (range 1 k) ∙ none-or x (x 0) (range 1 k))
 
 -- ---- each code, for one entrant: the clauses say that the first set has it exactly when the meaning says so
 
@@ -144,7 +144,7 @@ by-code P a b c d e f (suc (suc (suc (suc (suc (suc (suc m))))))) t =
 
 module _ (k : ℕ) (S : ℕ → ℕ) where
   abbrev Says : ℕ → Type 0
-  Says code = T (meaning code (map S (range 0 (memberCount code k)))) ↔ ((e : ℕ) → T (clausesAt (λ i. has (S i) e) (memberClauses code k)))
+  Says code = T (meaning code (map S (range 0 (memberCount code k)))) ↔ ((e : ℕ) → T (clausesFor (λ i. has (S i) e) (memberClauses code k)))
 
   -- the first set is b, and b has the entrants for whom `value` is true
   is-set : (b : ℕ) (says : Bool → Bool → Bool → Bool) (value : Bool → Bool → Bool) (y z : ℕ → Bool)
@@ -153,46 +153,45 @@ module _ (k : ℕ) (S : ℕ → ℕ) where
       (λ e. rw (members e) (by-rows says value t (has (S 0) e) (y e) (z e)))
 
   code1 : Says 1
-  unfolding meaning memberCount memberClauses shortClauses clausesAt literalAt
+  unfolding meaning memberCount memberClauses shortClauses clausesFor literalFor
   code1 =
       is-set (S 1) (λ x y z. (not x || (y || false)) && ((x || (not y || false)) && true)) (λ y z. y) (λ e. has (S 1) e) (λ e. true) tt (λ e. refl)
 
   code2 : Says 2
-  unfolding meaning memberCount memberClauses shortClauses clausesAt literalAt
+  unfolding meaning memberCount memberClauses shortClauses clausesFor literalFor
   code2 = (
     (λ t e. within-table (has (S 0) e) (has (S 1) e) .1 (sub-has (S 0) (S 1) (inside-sub (S 0) (S 1) t) e)),
     (λ h. sub-inside (S 0) (S 1) (has-sub (S 0) (S 1) (λ e. within-table (has (S 0) e) (has (S 1) e) .0 (h e)))),
   )
 
   code3 : Says 3
-  unfolding meaning memberCount memberClauses shortClauses clausesAt literalAt
+  unfolding meaning memberCount memberClauses shortClauses clausesFor literalFor
   code3 =
       is-set (bitAnd (S 1) (S 2))
-        (λ x y z. (not y || (not z || (x || false))) && ((y || (not x || false)) && ((z || (not x || false)) && true)))
-        _&&_ (λ e. has (S 1) e) (λ e. has (S 2) e) tt (has-and (S 1) (S 2))
+      (λ x y z. (not y || (not z || (x || false))) && ((y || (not x || false)) && ((z || (not x || false)) && true)))
+      _&&_ (λ e. has (S 1) e) (λ e. has (S 2) e) tt (has-and (S 1) (S 2))
 
   code4 : Says 4
-  unfolding meaning memberCount memberClauses shortClauses clausesAt literalAt
+  unfolding meaning memberCount memberClauses shortClauses clausesFor literalFor
   code4 =
       is-set (bitOr (S 1) (S 2))
-        (λ x y z. (y || (z || (not x || false))) && ((not y || (x || false)) && ((not z || (x || false)) && true)))
-        _||_ (λ e. has (S 1) e) (λ e. has (S 2) e) tt (has-or (S 1) (S 2))
+      (λ x y z. (y || (z || (not x || false))) && ((not y || (x || false)) && ((not z || (x || false)) && true)))
+      _||_ (λ e. has (S 1) e) (λ e. has (S 2) e) tt (has-or (S 1) (S 2))
 
   code5 : Says 5
-  unfolding meaning memberCount memberClauses shortClauses clausesAt literalAt
+  unfolding meaning memberCount memberClauses shortClauses clausesFor literalFor
   code5 =
       is-set (less (S 1) (S 2))
-        (λ x y z. (not y || (z || (x || false))) && ((y || (not x || false)) && ((not z || (not x || false)) && true)))
-        (λ y z. y && not z) (λ e. has (S 1) e) (λ e. has (S 2) e) tt (has-less (S 1) (S 2))
+      (λ x y z. (not y || (z || (x || false))) && ((y || (not x || false)) && ((not z || (not x || false)) && true)))
+      (λ y z. y && not z) (λ e. has (S 1) e) (λ e. has (S 2) e) tt (has-less (S 1) (S 2))
 
   code6 : Says 6
   unfolding meaning memberCount memberClauses
   code6 =
       let u : ℕ → Bool = λ e. any (λ i. has (S i) e) (range 1 k) in
       let is = is-set (union (map S (range 1 k))) (λ x y z. (y || (not x || false)) && (not y || x)) (λ y z. y) u (λ e. true) tt
-            (λ e. has-union e (map S (range 1 k)) ∙ any-map (λ w. has w e) S (range 1 k)) in
-      rw (add-one k)
-      (
+      (λ e. has-union e (map S (range 1 k)) ∙ any-map (λ w. has w e) S (range 1 k)) in
+      rw (add-one k) (
         (λ t e. subst T (sym (union-clauses k (λ i. has (S i) e))) (is .0 t e)),
         (λ h. is .1 (λ e. subst T (union-clauses k (λ i. has (S i) e)) (h e))),
       )
@@ -214,9 +213,9 @@ member-bound c r =
     let a = between 1 6 (c .code) in
     let b = not (eqb (c .code) 6) || between 2 (limits .members - 1) k in
     by-code (λ code. T (not (eqb code 6) || between 2 (limits .members - 1) k) → memberCount code k ≤ limits .members)
-      (λ t. unfold memberCount in lit≤ tt) (λ t. unfold memberCount in lit≤ tt) (λ t. unfold memberCount in lit≤ tt) (λ t. unfold memberCount in lit≤ tt)
-      (λ t. unfold memberCount in lit≤ tt)
-      (λ t. unfold memberCount in (let h = leb→le k 16 (and-right (leb 2 k) (leb k 16) t) in omega arith)) (c .code) (and-left a b r) (and-right a b r)
+    (λ t. unfold memberCount in lit≤ tt) (λ t. unfold memberCount in lit≤ tt) (λ t. unfold memberCount in lit≤ tt) (λ t. unfold memberCount in lit≤ tt)
+    (λ t. unfold memberCount in lit≤ tt)
+    (λ t. unfold memberCount in (let h = leb→le k 16 (and-right (leb 2 k) (leb k 16) t) in omega arith)) (c .code) (and-left a b r) (and-right a b r)
 
 pub meaning-clauses : (c : Constraint) → T (codeInRange c) → T (hasMembers c) → (d : List ℕ)
     → T (constraintTrue d c) ↔ ((e : ℕ) → T (clausesHold d c e))
@@ -226,11 +225,10 @@ meaning-clauses c r h d =
     let S : ℕ → ℕ = λ i. setOf d (getD (c .groups) i 0) in
     let is = by-members (c .count) S (c .code) (and-left (between 1 6 (c .code)) (not (eqb (c .code) 6) || between 2 (limits .members - 1) (c .count)) r) in
     let sets : map (setOf d) (take mc (c .groups)) ≡ map S (range 0 mc) =
-          ap (map (setOf d)) (take-places 0 (c .groups) mc (leb→le mc (length (c .groups)) h)) ∙ map-map (setOf d) (λ i. getD (c .groups) i 0) (range 0 mc) in
-    (
+    ap (map (setOf d)) (take-places 0 (c .groups) mc (leb→le mc (length (c .groups)) h)) ∙ map-map (setOf d) (λ i. getD (c .groups) i 0) (range 0 mc) in (
       (λ t e. subst T (sym (over-members (λ g. has (setOf d g) e) c)) (is .0 (subst (λ (ws : List ℕ). T (meaning (c .code) ws)) sets t) e)),
       (λ k. subst (λ (ws : List ℕ). T (meaning (c .code) ws)) (sym sets)
-        (is .1 (λ e. subst T (over-members (λ g. has (setOf d g) e) c) (k e)))),
+          (is .1 (λ e. subst T (over-members (λ g. has (setOf d g) e) c) (k e)))),
     )
 
 -- ---- words below 2 ^ n: only the entrants below n count, for a clause has a literal with a minus sign
@@ -239,16 +237,16 @@ any-none : (l : List ℕ) → any (λ i. false) l ≡ false
 any-none [] = refl
 any-none (x ∷ l) = any-none l
 
-none : (k code : ℕ) → T (between 1 6 code) → T (clausesAt (λ i. false) (memberClauses code k))
-unfolding memberClauses shortClauses clausesAt literalAt
-none k = by-code (λ code. T (clausesAt (λ i. false) (memberClauses code k))) tt tt tt tt tt
+none : (k code : ℕ) → T (between 1 6 code) → T (clausesFor (λ i. false) (memberClauses code k))
+unfolding memberClauses shortClauses clausesFor literalFor
+none k = by-code (λ code. T (clausesFor (λ i. false) (memberClauses code k))) tt tt tt tt tt
     (subst T (sym (union-clauses k (λ i. false))) (rw (any-none (range 1 k)) tt))
 
-same-clauses : (v u : ℕ → Bool) → ((i : ℕ) → v i ≡ u i) → (cs : List (List Literal)) → clausesAt v cs ≡ clausesAt u cs
-unfolding clausesAt literalAt
-same-clauses v u h cs = every-ext (any (literalAt v)) (any (literalAt u)) (any-ext (literalAt v) (literalAt u) literal) cs
+same-clauses : (v u : ℕ → Bool) → ((i : ℕ) → v i ≡ u i) → (cs : List (List Literal)) → clausesFor v cs ≡ clausesFor u cs
+unfolding clausesFor literalFor
+same-clauses v u h cs = every-ext (any (literalFor v)) (any (literalFor u)) (any-ext (literalFor v) (literalFor u) literal) cs
   where
-    literal : (l : Literal) → literalAt v l ≡ literalAt u l
+    literal : (l : Literal) → literalFor v l ≡ literalFor u l
     literal (Pos i) = h i
     literal (Neg i) = ap not (h i)
 
@@ -263,8 +261,8 @@ meaning-below c r h n d small =
     go e k (yes l) = k e l
     go e k (no f) =
         subst T
-          (sym (over-members (λ g. has (setOf d g) e) c
-          ∙ same-clauses (λ i. has (setOf d (getD (c .groups) i 0)) e) (λ i. false)
-            (λ i. has-past n (setOf d (getD (c .groups) i 0)) e (small (getD (c .groups) i 0)) (omega arith))
-            (memberClauses (c .code) (c .count))))
-          (none (c .count) (c .code) (and-left (between 1 6 (c .code)) (not (eqb (c .code) 6) || between 2 (limits .members - 1) (c .count)) r))
+        (sym (over-members (λ g. has (setOf d g) e) c
+        ∙ same-clauses (λ i. has (setOf d (getD (c .groups) i 0)) e) (λ i. false)
+        (λ i. has-past n (setOf d (getD (c .groups) i 0)) e (small (getD (c .groups) i 0)) (omega arith))
+        (memberClauses (c .code) (c .count))))
+        (none (c .count) (c .code) (and-left (between 1 6 (c .code)) (not (eqb (c .code) 6) || between 2 (limits .members - 1) (c .count)) r))

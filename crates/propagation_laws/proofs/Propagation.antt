@@ -1,12 +1,11 @@
 -- What propagation promises of its answer to a model in range: refusal 21 exactly where there is no candidate, otherwise the widest candidate, with
 -- every solution kept, in every order of the constraints. Assumes nothing.
-use mathlib.Core.Path.{_≡_, refl, sym, ap, ap₂, _∙_, subst}
+use mathlib.Core.Path.{_≡_, refl, sym, ap, ap₂, _∙_}
 use mathlib.Core.Logic.{_⊎_, inl, inr}
-use Prim.Native.Nat.{ℕ, zero, suc, _+_, _-_, _*_, _^_, _≤_, _<_}
-use native.Mathlib.Nat.{le-trans}
+use Prim.Native.Nat.{ℕ, zero, suc, _+_, _*_, _≤_}
 use native.Mathlib.Numerals.{add-one}
 use native.Mathlib.Omega.{arith}
-use mathlib.Core.Bool.{Bool, true, false, cond, _&&_}
+use mathlib.Core.Bool.{Bool, _&&_}
 use mathlib.Core.List.{List, [], _∷_, _++_, List·Permᴰ, List·Memᴰ, Permᴰ·symm}
 use lib.Dec.{T}
 use lib.ListN.{length, take, drop}
@@ -15,17 +14,16 @@ use Rattle.model.specs.declared.Constraint.{Constraint}
 use Rattle.model.specs.declared.Model.{Model}
 use Rattle.model.specs.declared.Propagated.{Propagated}
 use Rattle.model.specs.Lists.{every, pairwise, total}
-use Rattle.model.specs.Words.{size}
 use Rattle.model.specs.Model.{tableOf, constraintsOf, withTable, groupInRange, constraintInRange, inRange}
-use Rattle.model.specs.Propagate.{rules, run, pass, groupConsistent, consistent, sameTable, Outcome, contradiction, fixpoint, afterPass, iterate, outcome, refusedPropagation, propagatedAs, propagated, isFixpoint}
+use Rattle.model.specs.Propagate.{rules, pass, groupConsistent, consistent, sameTable, Outcome, contradiction, fixpoint, outcome, refusedPropagation, propagatedAs, propagated, isFixpoint}
 use Rattle.model.specs.Demand.{groupWithin, within, unchanged, isCandidate}
 use Rattle.model.specs.Solution.{constraintTrue, allowed, isSolution}
-use Rattle.model.proofs.Lists.{T-true, T-ext, and-left, and-right, and-both, every-all, all-every, all-perm, perm-mem, All, pairwise-length}
+use Rattle.model.proofs.Lists.{T-true, T-ext, and-left, and-right, and-both, every-all, all-every, all-perm, perm-mem, pairwise-length, front-take, front-drop}
 use Rattle.model.proofs.Words.{size-le, sub-le}
-use Rattle.propagation_laws.proofs.Fixpoint.{Frame, Answer, Widest, Candidate, PassesAtMost, Narrower, SameTable, parts, candidate, run-fixed, iterate-answer, iterate-passes, iterate-once, narrower, narrower-both}
-use Rattle.propagation_laws.proofs.GroupRule.{Narrow, Sound, narrow, sound, slack, groupFrame}
+use Rattle.propagation_laws.proofs.Fixpoint.{Answer, Candidate, PassesAtMost, Narrower, SameTable, parts, candidate, run-fixed, iterate-answer, iterate-passes, iterate-once, narrower, narrower-both}
+use Rattle.propagation_laws.proofs.GroupRule.{narrow, sound, slack}
 use Rattle.propagation_laws.proofs.ConstraintRule.{tableFrame, all-rules, fewer-rules}
-use Rattle.propagation_laws.proofs.Ranges.{GroupRange, group-range, is-group-range, ModelRange, model-range, is-model-range}
+use Rattle.propagation_laws.proofs.Ranges.{group-range, is-group-range, model-range, is-model-range}
 use Rattle.propagation_laws.proofs.Points.{points, allowed-points, Sized, solution-candidate}
 
 -- the same model with its constraints in another order
@@ -73,24 +71,6 @@ pub record Propagation (m : Model) (a : Propagated) : Type 0 where
   pub any-order : (o : Model) → Reordered m o
       → (a .refusal ≡ propagated o .refusal) × (tableOf (a .model) ≡ tableOf (propagated o .model))
 
--- ---- a table in front of the entries past s
-
-front-take : {A : Type 0} (k : ℕ) (t l : List A) → length t ≡ length (take k l) → take k (t ++ drop k l) ≡ t
-front-take zero [] l h = refl
-front-take zero (x ∷ t) l h = absurd (omega arith)
-front-take (suc k) [] [] h = refl
-front-take (suc k) (x ∷ t) [] h = absurd (omega arith)
-front-take (suc k) [] (y ∷ l) h = absurd (omega arith)
-front-take (suc k) (x ∷ t) (y ∷ l) h = ap {B = List _} (λ r. x ∷ r) (front-take k t l (omega arith))
-
-front-drop : {A : Type 0} (k : ℕ) (t l : List A) → length t ≡ length (take k l) → drop k (t ++ drop k l) ≡ drop k l
-front-drop zero [] l h = refl
-front-drop zero (x ∷ t) l h = absurd (omega arith)
-front-drop (suc k) [] [] h = refl
-front-drop (suc k) (x ∷ t) [] h = absurd (omega arith)
-front-drop (suc k) [] (y ∷ l) h = absurd (omega arith)
-front-drop (suc k) (x ∷ t) (y ∷ l) h = front-drop k t l (omega arith)
-
 -- ---- the bound
 
 total-bound : (n k : ℕ) (l : List Group) → T (every (groupInRange n) (take k l)) → total slack (take k l) ≤ 2 * k * n
@@ -115,7 +95,7 @@ module _ (m : Model) where
   unfolding outcome pass consistent sameTable tableOf
   answer r =
       iterate-answer tableFrame rs (all-rules (m .n) (m .s) (constraintsOf m)) (2 * m .s * m .n + 1) 0 (tableOf m)
-        (omega (arith, total-bound (m .n) (m .s) (m .groups) (model-range m r .table)))
+      (omega (arith, total-bound (m .n) (m .s) (m .groups) (model-range m r .table)))
 
   bound : T (inRange m) → PassesAtMost (2 * m .s * m .n + 1) (outcome m)
   unfolding outcome pass consistent sameTable tableOf
@@ -146,9 +126,9 @@ ranges n (x ∷ t) (y ∷ u) c w r =
     let i = narrow x y (and-left (groupWithin x y) (pairwise groupWithin t u) w) in
     let q = group-range n y (and-left (groupInRange n y) (every (groupInRange n) u) r) in
     and-both (groupInRange n x) (every (groupInRange n) t)
-      (is-group-range n x (record { fits = s .fits; small = omega (arith, sub-le (i .pos), q .small); order = s .order; top = omega (arith, i .hi, q .top) }))
-      (ranges n t u (and-right (groupConsistent x) (every groupConsistent t) c) (and-right (groupWithin x y) (pairwise groupWithin t u) w)
-        (and-right (groupInRange n y) (every (groupInRange n) u) r))
+    (is-group-range n x (record { fits = s .fits; small = omega (arith, sub-le (i .pos), q .small); order = s .order; top = omega (arith, i .hi, q .top) }))
+    (ranges n t u (and-right (groupConsistent x) (every groupConsistent t) c) (and-right (groupWithin x y) (pairwise groupWithin t u) w)
+    (and-right (groupInRange n y) (every (groupInRange n) u) r))
 
 module _ (m : Model) (r : T (inRange m)) (t : List Group) (c : Candidate tableFrame (rules (m .n) (m .s) (constraintsOf m)) (tableOf m) t) where
   long : length t ≡ length (take (m .s) (m .groups))
@@ -191,7 +171,7 @@ module _ (m : Model) (r : T (inRange m)) (t : List Group) (c : Candidate tableFr
   unfolding outcome consistent sameTable
   again-is =
       let once : outcome (withTable m t) ≡ fixpoint 1 t =
-            rw (table-is, add-one) (iterate-once tableFrame (pass (withTable m t)) _ 0 t (c .consistent) pass-same) in
+      rw (table-is, add-one) (iterate-once tableFrame (pass (withTable m t)) _ 0 t (c .consistent) pass-same) in
       propagated-is (withTable m t) in-range ∙ ap (propagatedAs (withTable m t)) once ∙ (λ i. record { refusal = 0; passes = 1; model = twice i })
 
   -- a solution says that its sets are within the table and its constraints true
@@ -216,9 +196,9 @@ module _ (m : Model) (r : T (inRange m)) (t : List Group) (c : Candidate tableFr
       from : T (within (points d) t && b) → T (isSolution m d)
       from h =
           and-both a b
-            (rw (allowed-points (tableOf m) d)
-              (unfold within in tableFrame .w-trans (points d) t (tableOf m) (and-left (within (points d) t) b h) (c .inside)))
-            (and-right (within (points d) t) b h)
+          (rw (allowed-points (tableOf m) d)
+          (unfold within in tableFrame .w-trans (points d) t (tableOf m) (and-left (within (points d) t) b h) (c .inside)))
+          (and-right (within (points d) t) b h)
 
 -- ---- more constraints and a narrower table give a narrower answer
 
@@ -227,8 +207,8 @@ module _ (m o : Model) (rm : T (inRange m)) (ro : T (inRange o)) where
   unfolding within
   outcome-narrower h =
       narrower tableFrame (rs m) (rules (m .n) (m .s) (constraintsOf o))
-        (fewer-rules (m .n) (m .s) (constraintsOf m) (constraintsOf o) (h .lines)) (tableOf m) (tableOf o) (outcome m) (outcome o) (h .table)
-        (answer m rm) (rw (h .entrants, h .count) (answer o ro))
+      (fewer-rules (m .n) (m .s) (constraintsOf m) (constraintsOf o) (h .lines)) (tableOf m) (tableOf o) (outcome m) (outcome o) (h .table)
+      (answer m rm) (rw (h .entrants, h .count) (answer o ro))
 
   as-narrower : (p q : Outcome (List Group)) → Answer tableFrame (rs m) (tableOf m) p → Answer tableFrame (rs o) (tableOf o) q
       → Narrower tableFrame p q → NarrowerAnswer (propagatedAs m p) (propagatedAs o q)
@@ -239,7 +219,7 @@ module _ (m o : Model) (rm : T (inRange m)) (ro : T (inRange o)) where
     refused = λ e. absurd (omega arith);
     table = λ e.
         rw (table-is m rm t (parts tableFrame (rs m) (tableOf m) t (a .is)), table-is o ro u (parts tableFrame (rs o) (tableOf o) u (b .is)))
-          (unfold within in h);
+        (unfold within in h);
   }
 
   pub tighter : Tighter m o → NarrowerAnswer (propagated m) (propagated o)
@@ -278,7 +258,7 @@ reordered-range m o h r =
       constraints = rw (h .lines) at (q .constraints);
       table = rw (same-start m o h, h .entrants) at (q .table);
       lines = rw (h .count) at
-        (all-every (constraintInRange (m .s)) (constraintsOf o)
+          (all-every (constraintInRange (m .s)) (constraintsOf o)
           (all-perm (λ c. T (constraintInRange (m .s) c)) (h .order) (every-all (constraintInRange (m .s)) (constraintsOf m) (q .lines))));
     })
 
@@ -301,9 +281,9 @@ module _ (m o : Model) (rm : T (inRange m)) (h : Reordered m o) where
   reordered =
       let ro = reordered-range m o h rm in
       rw (propagated-is m rm, propagated-is o ro)
-        (as-same (outcome m) (outcome o) (answer m rm) (answer o ro) ro
-          (narrower-both tableFrame (outcome m) (outcome o)
-            (outcome-narrower m o rm ro (reordered-tighter m o h)) (outcome-narrower o m ro rm (reordered-tighter o m (reversed m o h)))))
+      (as-same (outcome m) (outcome o) (answer m rm) (answer o ro) ro
+      (narrower-both tableFrame (outcome m) (outcome o)
+      (outcome-narrower m o rm ro (reordered-tighter m o h)) (outcome-narrower o m ro rm (reordered-tighter o m (reversed m o h)))))
 
 -- ---- all of it
 

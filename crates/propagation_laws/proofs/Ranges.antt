@@ -1,6 +1,6 @@
 -- The parts of the range check, as facts. Assumes nothing.
 use Prim.Native.Nat.{ℕ, _^_, _≤_, _<_}
-use mathlib.Core.Bool.{Bool, _&&_}
+use mathlib.Core.Bool.{_&&_}
 use lib.Dec.{T, leb, ltb, leb→le, le→leb, ltb→lt, lt→ltb}
 use Rattle.model.specs.declared.Group.{Group}
 use Rattle.model.specs.declared.Constraint.{Constraint}
@@ -40,9 +40,9 @@ is-group-range n g r =
     let b = ltb (g .possible) (2 ^ n) in
     let c = leb (g .low) (g .high) in
     and-both (a && b && c) (leb (g .high) n)
-      (and-both (a && b) c (and-both a b (sub-inside (g .fixed) (g .possible) (r .fits)) (lt→ltb (g .possible) (2 ^ n) (r .small)))
-        (le→leb (g .low) (g .high) (r .order)))
-      (le→leb (g .high) n (r .top))
+    (and-both (a && b) c (and-both a b (sub-inside (g .fixed) (g .possible) (r .fits)) (lt→ltb (g .possible) (2 ^ n) (r .small)))
+    (le→leb (g .low) (g .high) (r .order)))
+    (le→leb (g .high) n (r .top))
 
 pub constraint-code : (s : ℕ) (c : Constraint) → T (constraintInRange s c) → T (codeInRange c)
 unfolding constraintInRange
@@ -84,4 +84,4 @@ is-model-range m r =
     let c = leb (m .c) (limits .constraints) in
     let d = every (groupInRange (m .n)) (tableOf m) in
     and-both (a && b && c && d) (every (constraintInRange (m .s)) (constraintsOf m))
-      (and-both (a && b && c) d (and-both (a && b) c (and-both a b (r .entrants) (r .groups)) (r .constraints)) (r .table)) (r .lines)
+    (and-both (a && b && c) d (and-both (a && b) c (and-both a b (r .entrants) (r .groups)) (r .constraints)) (r .table)) (r .lines)

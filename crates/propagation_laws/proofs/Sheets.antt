@@ -1,33 +1,33 @@
 -- Accepted sheets: their models are in range and have whole lists, and an order of an accepted sheet is accepted, with the same constraints in another
 -- order. Assumes nothing.
 use mathlib.Core.Path.{_≡_, refl, sym, ap, ap₂, _∙_, subst}
-use Prim.Native.Nat.{ℕ, zero, suc, _+_, _-_, _/_, _%_, _^_, _≤_, _<_}
-use native.Mathlib.Nat.{add-zero, add-suc, suc-add}
+use Prim.Native.Nat.{ℕ, zero, suc, _+_, _-_, _/_, _≤_, _<_}
+use native.Mathlib.Nat.{add-zero}
 use native.Mathlib.Numerals.{add-one}
 use native.Mathlib.Omega.{arith}
-use mathlib.Core.Bool.{Bool, true, false, cond, not, _&&_, _||_}
+use mathlib.Core.Bool.{Bool, true, false, cond, not, _&&_}
 use mathlib.Core.List.{List, [], _∷_, _++_, map, List·Permᴰ, Permᴰ·map}
-use borrow.Author.Tests.{ltb-true, ltb-false, leb-true, leb-false, eqb-true, eqb-false, le-leb, lt-leb, le-ltb, ne-eqb}
+use borrow.Author.Tests.{ltb-false, leb-true, leb-false, eqb-true, eqb-false, le-leb, lt-leb, le-ltb, ne-eqb}
 use lib.Dec.{T, leb, ltb, eqb, eqb·suc-zero, eqb→eq, leb→le, le→leb}
-use lib.ListN.{length, getD, take, drop, set, replicate, length-append, length-map, length-set, length-replicate, take-append-drop}
-use lib.Seq.{sets, sets-eq, length-sets, take-at}
+use lib.ListN.{length, getD, take, drop, set, replicate, length-append, length-map, length-replicate, take-append-drop}
+use lib.Seq.{sets, length-sets}
 use Rattle.model.specs.declared.Group.{Group}
 use Rattle.model.specs.declared.Constraint.{Constraint}
 use Rattle.model.specs.declared.Model.{Model}
 use Rattle.model.specs.declared.SheetRead.{SheetRead}
 use Rattle.model.specs.Lists.{every, between, distinct, range, total, stop}
-use Rattle.model.specs.Words.{wordWhere}
 use Rattle.model.specs.Limits.{limits}
 use Rattle.model.specs.Clauses.{memberCount, groupsOf}
 use Rattle.model.specs.Model.{zeroGroup, zeroConstraint, zeroModel, tableOf, constraintsOf, groupInRange, codeInRange, constraintInRange, inRange}
-use Rattle.model.specs.Sheet.{linesOf, valueAt, formRefusal, headRefusal, withHead, markAt, groupRefusal, groupFrom, withGroup, countFrom, groupCount, firstGroup, constraintFrom, constraintRefusal, withConstraint, lineRefusal, withLine, refusedSheet, afterLast, readLines, readSheet}
-use Rattle.model.specs.Demand.{Accepted, textOf, OrderOf}
-use Rattle.model.proofs.Lists.{T-true, true-T, and-left, and-right, and-both, every-append, total-append, range-length, All, all-perm, all-map, every-all, all-every, perm-total, perm-length, every-take, every-sets, take-sets}
+use Rattle.model.specs.Sheet.{linesOf, valueAt, formRefusal, headRefusal, withHead, markAt, groupRefusal, groupFrom, withGroup, groupCount, firstGroup, constraintFrom, constraintRefusal, withConstraint, lineRefusal, withLine, refusedSheet, afterLast, readLines, readSheet}
+use Rattle.model.specs.Propagate.{propagated}
+use Rattle.model.specs.Demand.{Accepted, OrderOf}
+use Rattle.model.proofs.Lists.{T-true, true-T, and-right, and-both, total-append, range-length, All, all-perm, all-map, every-all, all-every, perm-total, perm-length, every-take, every-sets, take-sets}
 use Rattle.model.proofs.Words.{where-lt, where-sub}
-use Rattle.propagation_laws.proofs.Ranges.{GroupRange, is-group-range, constraint-code, ModelRange, model-range, is-model-range}
+use Rattle.propagation_laws.proofs.Ranges.{is-group-range, constraint-code, model-range, is-model-range}
 use Rattle.propagation_laws.proofs.Meaning.{hasMembers, member-bound}
 use Rattle.propagation_laws.proofs.Points.{Sized}
-use Rattle.propagation_laws.proofs.Propagation.{Reordered}
+use Rattle.propagation_laws.proofs.Propagation.{Reordered, Propagation, propagation}
 use Rattle.propagation_laws.proofs.Lines.{ends, ends-last, text-lines, text-ends, text-length}
 
 -- ---- a refusal of 0: every test passed
@@ -87,7 +87,7 @@ constraint-good s l e =
     let f = passed (every (between 1 s) (groupsOf c)) 6 _ (d .1) in
     let g = passed (distinct (groupsOf c)) 8 _ (f .1) in
     and-both (codeInRange c && every (between 1 s) (groupsOf c)) (distinct (groupsOf c))
-      (and-both (codeInRange c) (every (between 1 s) (groupsOf c)) (b .0) (f .0)) (g .0)
+    (and-both (codeInRange c) (every (between 1 s) (groupsOf c)) (b .0) (f .0)) (g .0)
 
 -- the list of an array of 17
 unfoldable pub whole : Constraint → Bool
@@ -100,10 +100,10 @@ constraint-whole l t =
     let k = groupCount l in
     let h : k ≤ limits .members = member-bound (constraintFrom l) t in
     subst (λ (x : ℕ). T (eqb x (limits .members)))
-      (sym (length-append (map f (range 0 k)) (replicate (limits .members - k) 0)
-      ∙ ap₂ (λ (a b : ℕ). a + b) (length-map (range 0 k) f ∙ range-length 0 k) (length-replicate (limits .members - k) 0)
-      ∙ sum k h))
-      tt
+    (sym (length-append (map f (range 0 k)) (replicate (limits .members - k) 0)
+    ∙ ap₂ (λ (a b : ℕ). a + b) (length-map (range 0 k) f ∙ range-length 0 k) (length-replicate (limits .members - k) 0)
+    ∙ sum k h))
+    tt
   where
     sum : (k : ℕ) → k ≤ limits .members → k + (limits .members - k) ≡ limits .members
     sum k h = omega arith
@@ -156,7 +156,7 @@ module _ (j : ℕ) (q : Model) (l : List ℕ) (h : suc j ≤ q .s) where
   unfolding withLine withGroup
   group-step =
       rw (eqb·suc-zero j, le-leb (suc j) (q .s) h)
-        (ap (λ (i : ℕ). inGroups q (set (q .groups) i (groupFrom (q .n) l))) {x = suc j - 1} {y = j} (omega arith))
+      (ap (λ (i : ℕ). inGroups q (set (q .groups) i (groupFrom (q .n) l))) {x = suc j - 1} {y = j} (omega arith))
 
 -- k group lines from number j + 1 on
 record GroupPart (k j : ℕ) (ls : List (List ℕ)) (q : Model) : Type 0 where
@@ -185,7 +185,7 @@ group-part (suc k) j (l ∷ ls) q p e h =
           ∙ ap₂ (λ (i : ℕ) (z : Model). readLines (take k ls ++ x) i z) (add-one (suc j)) s
           ∙ ih .reads x
           ∙ ap (λ (i : ℕ). readLines x (suc i) (inGroups q (sets (q' .groups) (suc j) (map (groupFrom (q .n)) (take k ls)))))
-            {x = suc j + k} {y = j + suc k} (omega arith);
+          {x = suc j + k} {y = j + suc k} (omega arith);
     }
 
 -- ---- constraint lines
@@ -217,7 +217,7 @@ module _ (i : ℕ) (q : Model) (l : List ℕ) where
   unfolding withLine withConstraint
   constraint-step =
       rw (eqb·suc-zero (q .s + i), past)
-        (ap (λ (j : ℕ). inConstraints q (set (q .constraints) j (constraintFrom l))) {x = suc (q .s + i) - q .s - 1} {y = i} (omega arith))
+      (ap (λ (j : ℕ). inConstraints q (set (q .constraints) j (constraintFrom l))) {x = suc (q .s + i) - q .s - 1} {y = i} (omega arith))
 
   constraint-next : (ls : List (List ℕ)) → readLines ls (suc (q .s + i) + 1) (withLine (suc (q .s + i)) q l)
       ≡ readLines ls (suc (q .s + suc i)) (inConstraints q (set (q .constraints) i (constraintFrom l)))
@@ -280,20 +280,20 @@ parts (l ∷ ls) m e =
     let top : s ≤ limits .groups = leb→le s (limits .groups) (and-right (leb 1 s) (leb s (limits .groups)) (h .groups)) in
     let long : length vs ≡ s = length-map (take s ls) (groupFrom (q0 .n)) ∙ lib.Seq.length-take-le s ls (g .enough) in
     let reads : (x : List (List ℕ)) → readLines (take (suc s) (l ∷ ls) ++ x) 0 zeroModel ≡ readLines x (suc (s + 0)) q =
-          λ x. read-cons l (take s ls ++ x) 0 zeroModel (a .0) ∙ g .reads x
-            ∙ ap (λ (i : ℕ). readLines x (suc i) q) {x = 0 + s} {y = s + 0} (omega arith) in
+    λ x. read-cons l (take s ls ++ x) 0 zeroModel (a .0) ∙ g .reads x
+    ∙ ap (λ (i : ℕ). readLines x (suc i) q) {x = 0 + s} {y = s + 0} (omega arith) in
     record {
       start = q;
       entrants = h .entrants;
       groups = h .groups;
       constraints = h .constraints;
       table = subst (λ (t : List Group). T (every (groupInRange (q0 .n)) t)) (sym (take-sets vs (q0 .groups) s long (omega (arith, zero-wide))))
-        (all-every (groupInRange (q0 .n)) vs (all-map (λ y. T (groupInRange (q0 .n) y)) (groupFrom (q0 .n)) (take s ls) (g .good)));
+          (all-every (groupInRange (q0 .n)) vs (all-map (λ y. T (groupInRange (q0 .n) y)) (groupFrom (q0 .n)) (take s ls) (g .good)));
       wide = length-sets (q0 .groups) 0 vs ∙ zero-wide;
       empty = refl;
       reads = reads;
       rest = constraint-part (drop s ls) 0 q m (omega arith)
-        (sym (reads (drop s ls)) ∙ ap (λ (x : List (List ℕ)). readLines (l ∷ x) 0 zeroModel) (take-append-drop s ls) ∙ e);
+          (sym (reads (drop s ls)) ∙ ap (λ (x : List (List ℕ)). readLines (l ∷ x) 0 zeroModel) (take-append-drop s ls) ∙ e);
     }
 
 -- ---- the model of an accepted sheet
@@ -309,13 +309,13 @@ good-constraints : (s : ℕ) (ls : List (List ℕ)) → All (Good s) ls → T (e
 good-constraints s [] g = tt
 good-constraints s (l ∷ ls) g =
     and-both (constraintInRange s (constraintFrom l)) (every (constraintInRange s) (map constraintFrom ls)) (constraint-good s l (g .0 .1))
-      (good-constraints s ls (g .1))
+    (good-constraints s ls (g .1))
 
 whole-constraints : (s : ℕ) (ls : List (List ℕ)) → All (Good s) ls → T (every whole (map constraintFrom ls))
 whole-constraints s [] g = tt
 whole-constraints s (l ∷ ls) g =
     and-both (whole (constraintFrom l)) (every whole (map constraintFrom ls))
-      (constraint-whole l (constraint-code s (constraintFrom l) (constraint-good s l (g .0 .1)))) (whole-constraints s ls (g .1))
+    (constraint-whole l (constraint-code s (constraintFrom l) (constraint-good s l (g .0 .1)))) (whole-constraints s ls (g .1))
 
 zero-whole : T (every whole (zeroModel .constraints))
 unfolding whole zeroModel zeroConstraint
@@ -353,7 +353,7 @@ module _ (ls : List (List ℕ)) (m : Model) (p : Parts ls m) where
       groups = p .wide;
       constraints = length-sets (q .constraints) 0 (map constraintFrom xs) ∙ ap length (p .empty) ∙ zero-long;
       members = every-sets whole (map constraintFrom xs) (q .constraints) 0
-        (subst (λ (cs : List Constraint). T (every whole cs)) (sym (p .empty)) zero-whole) (whole-constraints (q .s) xs good);
+          (subst (λ (cs : List Constraint). T (every whole cs)) (sym (p .empty)) zero-whole) (whole-constraints (q .s) xs good);
     }
 
 -- ---- the bytes of an accepted sheet
@@ -389,8 +389,11 @@ bytes b m e = go (ltb (limits .sheet) (length b)) refl (eqb (length b) 0) refl (
 from-bytes : (b : List ℕ) (m : Model) → Bytes b m → Accepted b m
 unfolding readSheet
 from-bytes b m h =
-    rw (le-ltb (limits .sheet) (length b) (h .short), ne-eqb (length b) 0 (λ e. omega (arith, h .some)),
-      last b (h .some) ∙ T-true (ends b) (h .ended)) (h .reads)
+    rw (
+      le-ltb (limits .sheet) (length b) (h .short),
+      ne-eqb (length b) 0 (λ e. omega (arith, h .some)),
+      last b (h .some) ∙ T-true (ends b) (h .ended),
+    ) (h .reads)
 
 -- ---- the theorems
 
@@ -398,20 +401,20 @@ pub accurate : (b : List ℕ) (m : Model) → Accepted b m → Accurate m
 accurate b m e =
     let p = parts (linesOf b) m (bytes b m e .reads) in
     subst Accurate (sym (p .rest .model))
-      (made-accurate (linesOf b) m p (drop (suc (p .start .s)) (linesOf b)) (p .rest .good) (omega (arith, p .rest .count)))
+    (made-accurate (linesOf b) m p (drop (suc (p .start .s)) (linesOf b)) (p .rest .good) (omega (arith, p .rest .count)))
 
 pub sized : (m : Model) → T (inRange m) → T (every whole (m .constraints)) → Sized m
 unfolding constraintsOf hasMembers whole
 sized m r t = record {
   members = go (constraintsOf m) (every-all (constraintInRange (m .s)) (constraintsOf m) (model-range m r .lines))
-    (every-all whole (constraintsOf m) (every-take whole (m .c) (m .constraints) t));
+      (every-all whole (constraintsOf m) (every-take whole (m .c) (m .constraints) t));
 }
   where
     one : (c : Constraint) → T (constraintInRange (m .s) c) → T (whole c) → T (hasMembers c)
     one c r t =
         le→leb (memberCount (c .code) (c .count)) (length (c .groups))
-          (subst (λ (k : ℕ). memberCount (c .code) (c .count) ≤ k) (sym (eqb→eq (length (c .groups)) (limits .members) t))
-            (member-bound c (constraint-code (m .s) c r)))
+        (subst (λ (k : ℕ). memberCount (c .code) (c .count) ≤ k) (sym (eqb→eq (length (c .groups)) (limits .members) t))
+        (member-bound c (constraint-code (m .s) c r)))
 
     go : (cs : List Constraint) → All (λ c. T (constraintInRange (m .s) c)) cs → All (λ c. T (whole c)) cs → T (every hasMembers cs)
     go [] r t = tt
@@ -434,8 +437,8 @@ order-accepted b o m h = (
       lines = ap (λ (z : Model). z .c) (p .rest .model);
       groups = ap (λ (z : Model). z .groups) (p .rest .model);
       order = subst (λ (cs : List Constraint). List·Permᴰ cs (constraintsOf (made (linesOf b) m p ys good count)))
-        (sym (ap constraintsOf (p .rest .model) ∙ made-constraints (linesOf b) m p xs (p .rest .good) (omega (arith, p .rest .count))))
-        (subst (λ (cs : List Constraint). List·Permᴰ (map constraintFrom xs) cs) (sym (made-constraints (linesOf b) m p ys good count))
+          (sym (ap constraintsOf (p .rest .model) ∙ made-constraints (linesOf b) m p xs (p .rest .good) (omega (arith, p .rest .count))))
+          (subst (λ (cs : List Constraint). List·Permᴰ (map constraintFrom xs) cs) (sym (made-constraints (linesOf b) m p ys good count))
           (Permᴰ·map constraintFrom permuted));
     },
   ),
@@ -487,3 +490,14 @@ order-accepted b o m h = (
         ∙ ap (total f) (take-append-drop k (linesOf b))
         ∙ sym (text-length (linesOf b))
         ∙ ap length (text-lines b (byte .ended))
+
+-- ---- so for every accepted sheet, and for every order of it
+
+pub sheet-propagation : (b : List ℕ) (m : Model) → Accepted b m → Propagation m (propagated m)
+sheet-propagation b m e = let a = accurate b m e in propagation m (a .in-range) (sized m (a .in-range) (a .members))
+
+pub order-same : (b o : List ℕ) (m : Model) → OrderOf b o m
+    → (p : Model) × (Accepted o p × ((propagated m .refusal ≡ propagated p .refusal) × (tableOf (propagated m .model) ≡ tableOf (propagated p .model))))
+order-same b o m h =
+    let r = order-accepted b o m h in
+    (r .0, (r .1 .0, sheet-propagation b m (h .accepted) .any-order (r .0) (r .1 .1)))

@@ -1,12 +1,12 @@
 -- From one thing to a list of things, place by place: a frame of tables, and a rule at one place. Assumes nothing.
-use mathlib.Core.Path.{_≡_, refl, sym, ap, ap₂, _∙_, subst}
+use mathlib.Core.Path.{_≡_, refl, sym, ap, ap₂, subst}
 use mathlib.Core.Logic.{_⊎_, inl, inr}
-use Prim.Native.Nat.{ℕ, zero, suc, _+_, _<_}
+use Prim.Native.Nat.{ℕ, zero, suc, _<_}
 use native.Mathlib.Omega.{arith}
-use mathlib.Core.Bool.{Bool, true, false, _&&_}
+use mathlib.Core.Bool.{Bool, true, false}
 use mathlib.Core.List.{List, [], _∷_}
 use lib.Dec.{T}
-use lib.ListN.{length, getD}
+use lib.ListN.{getD}
 use Rattle.model.specs.Lists.{every, pairwise, total, onPlace}
 use Rattle.model.proofs.Lists.{and-left, and-right, and-both, pairwise-refl, pairwise-trans}
 use Rattle.propagation_laws.proofs.Fixpoint.{Frame, Rule}
@@ -37,7 +37,7 @@ module _ {X : Type 0} (F : Frame X) where
   table-antisym (x ∷ xs) [] p q = absurd p
   table-antisym (x ∷ xs) (y ∷ ys) p q =
       ap₂ {C = List X} (λ a l. a ∷ l) (F .w-antisym x y (first x y xs ys p) (first y x ys xs q))
-        (table-antisym xs ys (rest x y xs ys p) (rest y x ys xs q))
+      (table-antisym xs ys (rest x y xs ys p) (rest y x ys xs q))
 
   pub table-ok : (x y : List X) → T (pairwise (F .within) x y) → T (every (F .ok) x) → T (every (F .ok) y)
   table-ok [] [] p c = tt
@@ -45,7 +45,7 @@ module _ {X : Type 0} (F : Frame X) where
   table-ok (x ∷ xs) [] p c = absurd p
   table-ok (x ∷ xs) (y ∷ ys) p c =
       and-both (F .ok y) (every (F .ok) ys) (F .ok-up x y (first x y xs ys p) (and-left (F .ok x) (every (F .ok) xs) c))
-        (table-ok xs ys (rest x y xs ys p) (and-right (F .ok x) (every (F .ok) xs) c))
+      (table-ok xs ys (rest x y xs ys p) (and-right (F .ok x) (every (F .ok) xs) c))
 
   pub table-same : (x y : List X) → T (pairwise (F .same) x y) → x ≡ y
   table-same [] [] t = refl
@@ -53,7 +53,7 @@ module _ {X : Type 0} (F : Frame X) where
   table-same (x ∷ xs) [] t = absurd t
   table-same (x ∷ xs) (y ∷ ys) t =
       ap₂ {C = List X} (λ a l. a ∷ l) (F .same-eq x y (and-left (F .same x y) (pairwise (F .same) xs ys) t))
-        (table-same xs ys (and-right (F .same x y) (pairwise (F .same) xs ys) t))
+      (table-same xs ys (and-right (F .same x y) (pairwise (F .same) xs ys) t))
 
   -- either the same, or smaller
   shrink-one : (x y : X) → T (F .ok y) → T (F .within y x) → (b : Bool) → F .same y x ≡ b → (y ≡ x) ⊎ (F .measure y < F .measure x)
@@ -75,7 +75,7 @@ module _ {X : Type 0} (F : Frame X) where
   table-shrinks (x ∷ xs) [] c p = absurd p
   table-shrinks (x ∷ xs) (y ∷ ys) c p =
       cons-shrink x y xs ys (shrink-one x y (and-left (F .ok y) (every (F .ok) ys) c) (first y x ys xs p) (F .same y x) refl)
-        (table-shrinks xs ys (and-right (F .ok y) (every (F .ok) ys) c) (rest y x ys xs p))
+      (table-shrinks xs ys (and-right (F .ok y) (every (F .ok) ys) c) (rest y x ys xs p))
 
   abbrev pub listFrame : Frame (List X)
   listFrame = record {
@@ -109,7 +109,7 @@ module _ {X : Type 0} (F : Frame X) where
       both u (s x) us xs (h u x (and-left (F .ok u) (every (F .ok) us) c) (head-eq e) (first u x us xs w)) (rest u x us xs w)
   place-keeps (suc i) r s h (u ∷ us) (x ∷ xs) c e w =
       both u x us (onPlace i s xs) (first u x us xs w)
-        (place-keeps i r s h us xs (and-right (F .ok u) (every (F .ok) us) c) (tail-eq e) (rest u x us xs w))
+      (place-keeps i r s h us xs (and-right (F .ok u) (every (F .ok) us) c) (tail-eq e) (rest u x us xs w))
 
   pub place-rule : (i : ℕ) (r : X → X) → Rule F r → Rule listFrame (onPlace i r)
   place-rule i r h = record { reduces = place-reduces i r (h .reduces); keeps = place-keeps i r r (h .keeps) }
