@@ -308,3 +308,22 @@ front-drop (suc k) [] [] h = refl
 front-drop (suc k) (x ∷ t) [] h = absurd (omega arith)
 front-drop (suc k) [] (y ∷ l) h = absurd (omega arith)
 front-drop (suc k) (x ∷ t) (y ∷ l) h = front-drop k t l (omega arith)
+
+pub all-range : (P : ℕ → Type 0) (a k : ℕ) → All P (range a k) → (i : ℕ) → a ≤ i → i < a + k → P i
+all-range P a zero h i l u = absurd (omega arith)
+all-range P a (suc k) h i l u = go (ℕ-discrete i a) (all-range P (suc a) k (h .1) i)
+  where
+    go : Dec (i ≡ a) → (suc a ≤ i → i < suc a + k → P i) → P i
+    go (yes e) ih = subst P (sym e) (h .0)
+    go (no f) ih = ih (omega arith) (omega arith)
+
+-- a place that its change leaves as it is
+pub place-same : {A : Type 0} (i : ℕ) (r : A → A) (t : List A) (d : A) → r (getD t i d) ≡ getD t i d → onPlace i r t ≡ t
+place-same i r [] d h = refl
+place-same zero r (x ∷ t) d h = ap {B = List _} (λ y. y ∷ t) h
+place-same (suc i) r (x ∷ t) d h = ap {B = List _} (λ l. x ∷ l) (place-same i r t d h)
+
+pub same-place : {A : Type 0} (i : ℕ) (r : A → A) (t : List A) (d : A) → i < length t → onPlace i r t ≡ t → r (getD t i d) ≡ getD t i d
+same-place i r [] d h e = absurd (omega arith)
+same-place zero r (x ∷ t) d h e = cc
+same-place (suc i) r (x ∷ t) d h e = same-place i r t d (omega arith) (cc)

@@ -87,7 +87,7 @@ module _ {X : Type 0} (F : Frame X) where
 
   -- ---- rules one after the other
 
-  all-reduce : (rs : List (X → X)) → All Rule rs → All Reduces rs
+  pub all-reduce : (rs : List (X → X)) → All Rule rs → All Reduces rs
   all-reduce [] h = tt
   all-reduce (r ∷ rs) h = (h .0 .reduces, all-reduce rs (h .1))
 

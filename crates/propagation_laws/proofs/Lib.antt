@@ -8,3 +8,4 @@ pub mod Points
 pub mod Propagation
 pub mod Lines
 pub mod Sheets
+pub mod Unchanged

@@ -1,26 +1,26 @@
 -- A solution as a table that allows nothing else: it is a candidate, so no rule loses it. Assumes nothing.
 use mathlib.Core.Path.{_≡_, refl, sym, ap, ap₂, _∙_, subst}
-use Prim.Native.Nat.{ℕ, zero, suc, _-_}
+use Prim.Native.Nat.{ℕ, _-_}
 use native.Mathlib.Nat.{le-refl}
 use native.Mathlib.Omega.{arith}
 use mathlib.Core.Bool.{Bool, true, false, cond, not, _&&_, _||_}
 use mathlib.Core.List.{List, [], _∷_, _++_, map}
 use lib.Dec.{T, leb, eqb}
 use lib.Bits.{bitAnd, bitOr, and-self, or-self}
-use lib.ListN.{getD, List·getD-map}
+use lib.ListN.{List·getD-map}
 use Rattle.model.specs.declared.Literal.{Literal}
 use Rattle.model.specs.declared.Literal.the-variants.{Pos, Neg}
 use Rattle.model.specs.declared.Group.{Group}
 use Rattle.model.specs.declared.Constraint.{Constraint}
 use Rattle.model.specs.declared.Model.{Model}
-use Rattle.model.specs.Lists.{every, any, pairwise, range, onPlace}
+use Rattle.model.specs.Lists.{every, any, pairwise, range}
 use Rattle.model.specs.Words.{full, less, sizeIn, size, inside, has}
 use Rattle.model.specs.Clauses.{clausesOf}
 use Rattle.model.specs.Model.{zeroGroup, tableOf, constraintsOf, groupAt, constraintInRange, inRange}
 use Rattle.model.specs.Propagate.{limited, cut, filled, groupRule, falseIn, allFalse, fixedWith, possibleWithout, madeTrue, literalRule, clauseRules, clauseRule, constraintRule, groupRuleAt, rules, groupConsistent, consistent, sameTable}
 use Rattle.model.specs.Demand.{groupWithin, within, unchanged, isCandidate}
 use Rattle.model.specs.Solution.{allowed, setOf, constraintTrue, isSolution}
-use Rattle.model.proofs.Lists.{and-left, and-right, and-both, and-assoc, any-append, All, all-of, all-append, all-map, every-all}
+use Rattle.model.proofs.Lists.{place-same, and-left, and-right, and-both, and-assoc, any-append, All, all-of, all-append, all-map, every-all}
 use Rattle.model.proofs.Words.{sub-refl, sub-antisym, sub-or, sub-or-l, has-and, has-less, has-ext, has-sub}
 use Rattle.propagation_laws.proofs.Fixpoint.{Unchanged, whole, run-fixed}
 use Rattle.propagation_laws.proofs.GroupRule.{group-eq, is-consistent}
@@ -73,12 +73,6 @@ point-group w = ap filled (ap cut lim ∙ cu) ∙ fi
 
     fi : filled (point w) ≡ point w
     fi = group-eq (filled (point w)) (point w) (cond-same (eqb (size w) (size w)) (bitOr w w) w (or-self w)) refl refl refl
-
--- a place that its change leaves as it is
-place-same : (i : ℕ) (r : Group → Group) (t : List Group) (g : Group) → r (getD t i g) ≡ getD t i g → onPlace i r t ≡ t
-place-same i r [] g h = refl
-place-same zero r (x ∷ t) g h = ap {B = List Group} (λ y. y ∷ t) h
-place-same (suc i) r (x ∷ t) g h = ap {B = List Group} (λ l. x ∷ l) (place-same i r t g h)
 
 group-of : (d : List ℕ) (g : ℕ) → groupAt (points d) g ≡ point (setOf d g)
 unfolding groupAt setOf zeroGroup size sizeIn

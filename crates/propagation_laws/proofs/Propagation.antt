@@ -18,7 +18,7 @@ use Rattle.model.specs.Model.{tableOf, constraintsOf, withTable, groupInRange, 
 use Rattle.model.specs.Propagate.{rules, pass, groupConsistent, consistent, sameTable, Outcome, contradiction, fixpoint, outcome, refusedPropagation, propagatedAs, propagated, isFixpoint}
 use Rattle.model.specs.Demand.{groupWithin, within, unchanged, isCandidate}
 use Rattle.model.specs.Solution.{constraintTrue, allowed, isSolution}
-use Rattle.model.proofs.Lists.{T-true, T-ext, and-left, and-right, and-both, every-all, all-every, all-perm, perm-mem, pairwise-length, front-take, front-drop}
+use Rattle.model.proofs.Lists.{T-true, T-ext, and-left, and-right, and-both, every-all, all-every, all-at, all-mem, all-perm, perm-mem, pairwise-length, front-take, front-drop}
 use Rattle.model.proofs.Words.{size-le, sub-le}
 use Rattle.propagation_laws.proofs.Fixpoint.{Answer, Candidate, PassesAtMost, Narrower, SameTable, parts, candidate, run-fixed, iterate-answer, iterate-passes, iterate-once, narrower, narrower-both}
 use Rattle.propagation_laws.proofs.GroupRule.{narrow, sound, slack}
@@ -225,6 +225,19 @@ module _ (m o : Model) (rm : T (inRange m)) (ro : T (inRange o)) where
   pub tighter : Tighter m o → NarrowerAnswer (propagated m) (propagated o)
   tighter h =
       rw (propagated-is m rm, propagated-is o ro) (as-narrower (outcome m) (outcome o) (answer m rm) (answer o ro) (outcome-narrower h))
+
+-- and each solution of the one is a solution of the other
+pub tighter-solutions : (m o : Model) → Tighter m o → (d : List ℕ) → T (isSolution m d) → T (isSolution o d)
+unfolding isSolution
+tighter-solutions m o h d t =
+    let a = pairwise allowed (tableOf m) d in
+    let b = every (constraintTrue d) (constraintsOf m) in
+    let P : Constraint → Type 0 = λ c. T (constraintTrue d c) in
+    and-both (pairwise allowed (tableOf o) d) (every (constraintTrue d) (constraintsOf o))
+    (rw (allowed-points (tableOf o) d)
+    (unfold within in tableFrame .w-trans (points d) (tableOf m) (tableOf o) (rw (allowed-points (tableOf m) d) at (and-left a b t)) (h .table)))
+    (all-every (constraintTrue d) (constraintsOf o)
+    (all-mem P (constraintsOf o) (λ c i. all-at P (h .lines c i) (every-all (constraintTrue d) (constraintsOf m) (and-right a b t)))))
 
 -- ---- any order of the constraints
 
