@@ -6,12 +6,11 @@ use native.Mathlib.Nat.{add-zero, add-suc, add-assoc}
 use native.Mathlib.Omega.{arith}
 use native.Mathlib.Decide.{decLt, ℕ-discrete}
 use mathlib.Core.Bool.{Bool, true, false, not, _&&_, _||_}
-use mathlib.Core.List.{List, [], _∷_, _++_, map, append-assoc}
-use lib.Dec.{T, eqb}
-use lib.ListN.{length, getD, set, take, drop, length-append, length-take, drop-of-length-le}
-use lib.Seq.{drop-cons, getD-take}
-use native.Mathlib.Numerals.{add-one}
-use Rattle.model.specs.Lists.{every, any, each, total, range, onPlace, distinct}
+use mathlib.Core.List.{List, [], _∷_, _++_, map, append-assoc, List·Memᴰ, List·Memᴰ·head, List·Memᴰ·tail, List·Permᴰ, List·Permᴰ·nil, List·Permᴰ·cons, List·Permᴰ·swap, List·Permᴰ·trans}
+use lib.Dec.{T}
+use lib.ListN.{length, getD, set, take, drop, length-append, length-take}
+use lib.Seq.{sets, sets-eq, take-at}
+use Rattle.model.specs.Lists.{every, any, pairwise, each, total, range, onPlace}
 
 -- ---- tests as facts
 
@@ -136,94 +135,195 @@ place-append i r [] u h = absurd (omega arith)
 place-append zero r (x ∷ xs) u h = refl
 place-append (suc i) r (x ∷ xs) u h = ap {B = List _} (λ l. x ∷ l) (place-append i r xs u (omega arith))
 
--- ---- a loop's rest: what stands from place i on
+-- ---- what holds of every element
 
-module _ {A : Type 0} (d : A) where
-  pub drop-next : (xs : List A) (i : ℕ) → i < length xs → drop i xs ≡ getD xs i d ∷ drop (i + 1) xs
-  drop-next xs i h = rw (add-one i) (drop-cons xs i d h)
+abbrev pub All {ℓ} : {A : Type ℓ} → (A → Type 0) → List A → Type 0
+All P [] = Unit {0}
+All P (x ∷ xs) = P x × All P xs
 
-  pub every-next : (p : A → Bool) (xs : List A) (i : ℕ) → i < length xs
-      → every p (drop i xs) ≡ (p (getD xs i d) && every p (drop (i + 1) xs))
-  every-next p xs i h = ap (every p) (drop-next xs i h)
+module _ {ℓ} {A : Type ℓ} (P : A → Type 0) where
+  pub all-of : ((a : A) → P a) → (l : List A) → All P l
+  all-of f [] = tt
+  all-of f (x ∷ l) = (f x, all-of f l)
 
-  pub any-next : (p : A → Bool) (xs : List A) (i : ℕ) → i < length xs → any p (drop i xs) ≡ (p (getD xs i d) || any p (drop (i + 1) xs))
-  any-next p xs i h = ap (any p) (drop-next xs i h)
+  pub all-append : (l m : List A) → All P l → All P m → All P (l ++ m)
+  all-append [] m h k = k
+  all-append (x ∷ l) m h k = (h .0, all-append l m (h .1) k)
 
-module _ {A : Type 0} where
-  pub every-end : (p : A → Bool) (xs : List A) (i : ℕ) → length xs ≤ i → every p (drop i xs) ≡ true
-  every-end p xs i h = ap (every p) (drop-of-length-le xs h)
+  pub all-left : (l m : List A) → All P (l ++ m) → All P l
+  all-left [] m h = tt
+  all-left (x ∷ l) m h = (h .0, all-left l m (h .1))
 
-  pub any-end : (p : A → Bool) (xs : List A) (i : ℕ) → length xs ≤ i → any p (drop i xs) ≡ false
-  any-end p xs i h = ap (any p) (drop-of-length-le xs h)
+  pub all-right : (l m : List A) → All P (l ++ m) → All P m
+  all-right [] m h = h
+  all-right (x ∷ l) m h = all-right l m (h .1)
 
-  -- the first k of at least k elements
-  pub take-length : (k : ℕ) (xs : List A) → k ≤ length xs → length (take k xs) ≡ k
-  take-length k xs h = length-take k xs ∙ omega arith
+  pub all-perm : {l m : List A} → List·Permᴰ l m → All P l → All P m
+  all-perm List·Permᴰ·nil h = h
+  all-perm (List·Permᴰ·cons e d) h = (subst P e (h .0), all-perm d (h .1))
+  all-perm (List·Permᴰ·swap e f) h = (subst P f (h .1 .0), (subst P e (h .0), h .1 .1))
+  all-perm (List·Permᴰ·trans d e) h = all-perm e (all-perm d h)
 
--- ---- a loop that tests the first k elements in order: found, going on, done
+  pub all-at : {a : A} {l : List A} → List·Memᴰ a l → All P l → P a
+  all-at (List·Memᴰ·head e) h = subst P (sym e) (h .0)
+  all-at (List·Memᴰ·tail m) h = all-at m (h .1)
 
-module _ {A : Type 0} (p : A → Bool) (ys : List A) (k i : ℕ) where
-  at-i : (d : A) → i < min k (length ys) → getD (take k ys) i d ≡ getD ys i d
-  at-i d h = getD-take k ys i d (omega arith)
+  -- what holds of each place
+  pub all-mem : (l : List A) → ((a : A) → List·Memᴰ a l → P a) → All P l
+  all-mem [] f = tt
+  all-mem (x ∷ l) f = (f x (List·Memᴰ·head refl), all-mem l (λ a m. f a (List·Memᴰ·tail m)))
 
-  inside-k : i < min k (length ys) → i < length (take k ys)
-  inside-k h = rw (length-take k ys) h
+pub all-map {ℓ κ} : {A : Type ℓ} {B : Type κ} (P : B → Type 0) (f : A → B) (l : List A) → All (λ a. P (f a)) l → All P (map f l)
+all-map P f [] h = tt
+all-map P f (x ∷ l) h = (h .0, all-map P f l (h .1))
 
-  past-k : min k (length ys) ≤ i → length (take k ys) ≤ i
-  past-k h = rw (length-take k ys) h
+pub map-all {ℓ κ} : {A : Type ℓ} {B : Type κ} (P : B → Type 0) (f : A → B) (l : List A) → All P (map f l) → All (λ a. P (f a)) l
+map-all P f [] h = tt
+map-all P f (x ∷ l) h = (h .0, map-all P f l (h .1))
 
-  pub every-goes : every p (take k ys) ≡ every p (drop i (take k ys)) → i < min k (length ys) → (d : A) → p (getD ys i d) ≡ true
-      → every p (take k ys) ≡ every p (drop (i + 1) (take k ys))
-  every-goes inv h d e = inv ∙ every-next d p (take k ys) i (inside-k h) ∙ rw (at-i d h, e)
+-- the same, as a test
+pub every-all : {A : Type 0} (p : A → Bool) (l : List A) → T (every p l) → All (λ a. T (p a)) l
+every-all p [] t = tt
+every-all p (x ∷ l) t = (and-left (p x) (every p l) t, every-all p l (and-right (p x) (every p l) t))
 
-  pub every-stops : every p (take k ys) ≡ every p (drop i (take k ys)) → i < min k (length ys) → (d : A) → p (getD ys i d) ≡ false
-      → false ≡ every p (take k ys)
-  every-stops inv h d e = sym (inv ∙ every-next d p (take k ys) i (inside-k h) ∙ rw (at-i d h, e))
+pub all-every : {A : Type 0} (p : A → Bool) (l : List A) → All (λ a. T (p a)) l → T (every p l)
+all-every p [] h = tt
+all-every p (x ∷ l) h = and-both (p x) (every p l) (h .0) (all-every p l (h .1))
 
-  pub every-done : every p (take k ys) ≡ every p (drop i (take k ys)) → min k (length ys) ≤ i → true ≡ every p (take k ys)
-  every-done inv h = sym (inv ∙ every-end p (take k ys) i (past-k h))
+-- ---- two lists of one length
 
-  pub any-goes : (b : Bool) → b ≡ any p (drop i (take k ys)) → i < min k (length ys) → (d : A) → p (getD ys i d) ≡ false
-      → b ≡ any p (drop (i + 1) (take k ys))
-  any-goes b inv h d e = inv ∙ any-next d p (take k ys) i (inside-k h) ∙ rw (at-i d h, e)
+module _ {A : Type 0} (p : A → A → Bool) where
+  pub pairwise-refl : ((x : A) → T (p x x)) → (x : List A) → T (pairwise p x x)
+  pairwise-refl f [] = tt
+  pairwise-refl f (x ∷ xs) = and-both (p x x) (pairwise p xs xs) (f x) (pairwise-refl f xs)
 
-  pub any-found : (b : Bool) → b ≡ any p (drop i (take k ys)) → i < min k (length ys) → (d : A) → p (getD ys i d) ≡ true → true ≡ b
-  any-found b inv h d e = sym (inv ∙ any-next d p (take k ys) i (inside-k h) ∙ rw (at-i d h, e))
+  pub pairwise-trans : ((x y z : A) → T (p x y) → T (p y z) → T (p x z)) → (x y z : List A)
+      → T (pairwise p x y) → T (pairwise p y z) → T (pairwise p x z)
+  pairwise-trans f [] [] z s t = t
+  pairwise-trans f [] (y ∷ ys) z s t = absurd s
+  pairwise-trans f (x ∷ xs) [] z s t = absurd s
+  pairwise-trans f (x ∷ xs) (y ∷ ys) [] s t = absurd t
+  pairwise-trans f (x ∷ xs) (y ∷ ys) (z ∷ zs) s t =
+      let a = p x y in
+      let b = p y z in
+      and-both (p x z) (pairwise p xs zs) (f x y z (and-left a (pairwise p xs ys) s) (and-left b (pairwise p ys zs) t))
+      (pairwise-trans f xs ys zs (and-right a (pairwise p xs ys) s) (and-right b (pairwise p ys zs) t))
 
-  pub any-done : (b : Bool) → b ≡ any p (drop i (take k ys)) → min k (length ys) ≤ i → false ≡ b
-  any-done b inv h = sym (inv ∙ any-end p (take k ys) i (past-k h))
+pub pairwise-length : {A B : Type 0} (p : A → B → Bool) (x : List A) (y : List B) → T (pairwise p x y) → length x ≡ length y
+pairwise-length p [] [] t = refl
+pairwise-length p [] (y ∷ ys) t = absurd t
+pairwise-length p (x ∷ xs) [] t = absurd t
+pairwise-length p (x ∷ xs) (y ∷ ys) t = ap suc (pairwise-length p xs ys (and-right (p x y) (pairwise p xs ys) t))
 
--- the same for the test that all are different
-module _ (ys : List ℕ) (k i : ℕ) (inv : distinct (take k ys) ≡ distinct (drop i (take k ys))) where
-  distinct-next : i < min k (length ys)
-      → distinct (take k ys) ≡ (not (any (eqb (getD ys i 0)) (drop (i + 1) (take k ys))) && distinct (drop (i + 1) (take k ys)))
-  distinct-next h =
-      inv ∙ ap distinct (drop-next 0 (take k ys) i (inside-k (λ x. true) ys k i h)) ∙ rw (getD-take k ys i 0 (omega arith))
+-- ---- tests of what is made of each element
 
-  pub distinct-goes : i < min k (length ys) → any (eqb (getD ys i 0)) (drop (i + 1) (take k ys)) ≡ false
-      → distinct (take k ys) ≡ distinct (drop (i + 1) (take k ys))
-  distinct-goes h e = distinct-next h ∙ rw e
+module _ {A B : Type 0} (p : B → Bool) (f : A → B) where
+  pub every-map : (l : List A) → every p (map f l) ≡ every (λ a. p (f a)) l
+  every-map [] = refl
+  every-map (x ∷ l) = ap (λ b. p (f x) && b) (every-map l)
 
-  pub distinct-stops : i < min k (length ys) → any (eqb (getD ys i 0)) (drop (i + 1) (take k ys)) ≡ true → false ≡ distinct (take k ys)
-  distinct-stops h e = sym (distinct-next h ∙ rw e)
+  pub any-map : (l : List A) → any p (map f l) ≡ any (λ a. p (f a)) l
+  any-map [] = refl
+  any-map (x ∷ l) = ap (λ b. p (f x) || b) (any-map l)
 
-  pub distinct-done : min k (length ys) ≤ i → true ≡ distinct (take k ys)
-  distinct-done h = sym (inv ∙ ap distinct (drop-of-length-le (take k ys) (past-k (λ x. true) ys k i h)))
+module _ {A : Type 0} (p q : A → Bool) (h : (a : A) → p a ≡ q a) where
+  pub every-ext : (l : List A) → every p l ≡ every q l
+  every-ext [] = refl
+  every-ext (x ∷ l) = ap₂ _&&_ (h x) (every-ext l)
 
--- ---- a loop that tests i, i + 1, .. below n
+  pub any-ext : (l : List A) → any p l ≡ any q l
+  any-ext [] = refl
+  any-ext (x ∷ l) = ap₂ _||_ (h x) (any-ext l)
 
-range-next : (n i : ℕ) → i < n → range i (n - i) ≡ i ∷ range (i + 1) (n - (i + 1))
-range-next n i h = rw (add-one i, less-by-one) refl
+-- the first k elements, by their places
+pub take-places : {A : Type 0} (d : A) (l : List A) (k : ℕ) → k ≤ length l → take k l ≡ map (λ i. getD l i d) (range 0 k)
+take-places d l k h = from l k 0 (λ i. getD l i d) h (λ i. ap (λ (j : ℕ). getD l j d) (native.Mathlib.Nat.zero-add i))
   where
-    less-by-one : n - i ≡ suc (n - suc i)
-    less-by-one = omega arith
+    from : (l : List _) (k a : ℕ) (g : ℕ → _) → k ≤ length l → ((i : ℕ) → g (a + i) ≡ getD l i d) → take k l ≡ map g (range a k)
+    from l zero a g h e = refl
+    from [] (suc k) a g h e = absurd (omega arith)
+    from (x ∷ l) (suc k) a g h e =
+        ap₂ {C = List _} (λ y m. y ∷ m) (sym (e 0) ∙ ap g (add-zero a))
+        (from l k (suc a) g (omega arith) (λ i. ap g (native.Mathlib.Nat.suc-add a i ∙ sym (add-suc a i)) ∙ e (suc i)))
 
-module _ (p : ℕ → Bool) (b : Bool) (n i : ℕ) (inv : b ≡ every p (range i (n - i))) where
-  pub range-goes : i < n → p i ≡ true → b ≡ every p (range (i + 1) (n - (i + 1)))
-  range-goes h e = inv ∙ ap (every p) (range-next n i h) ∙ rw e
+-- a permutation has the same elements
+pub perm-mem {ℓ} : {A : Type ℓ} {l m : List A} {a : A} → List·Permᴰ l m → List·Memᴰ a l → List·Memᴰ a m
+perm-mem (List·Permᴰ·cons e p) (List·Memᴰ·head q) = List·Memᴰ·head (q ∙ e)
+perm-mem (List·Permᴰ·cons e p) (List·Memᴰ·tail h) = List·Memᴰ·tail (perm-mem p h)
+perm-mem (List·Permᴰ·swap e f) (List·Memᴰ·head q) = List·Memᴰ·tail (List·Memᴰ·head (q ∙ e))
+perm-mem (List·Permᴰ·swap e f) (List·Memᴰ·tail (List·Memᴰ·head q)) = List·Memᴰ·head (q ∙ f)
+perm-mem (List·Permᴰ·swap e f) (List·Memᴰ·tail (List·Memᴰ·tail h)) = List·Memᴰ·tail (List·Memᴰ·tail h)
+perm-mem (List·Permᴰ·trans p q) h = perm-mem q (perm-mem p h)
 
-  pub range-stops : i < n → p i ≡ false → b ≡ false
-  range-stops h e = inv ∙ ap (every p) (range-next n i h) ∙ rw e
+pub perm-total : {A : Type 0} (f : A → ℕ) {l m : List A} → List·Permᴰ l m → total f l ≡ total f m
+perm-total f List·Permᴰ·nil = refl
+perm-total f (List·Permᴰ·cons e p) = ap₂ (λ (a b : ℕ). a + b) (ap f e) (perm-total f p)
+perm-total f (List·Permᴰ·swap e q) = omega (arith, ap f e, ap f q)
+perm-total f (List·Permᴰ·trans p q) = perm-total f p ∙ perm-total f q
 
-  pub range-done : n ≤ i → b ≡ true
-  range-done h = let z : n - i ≡ 0 = omega arith in inv ∙ ap (λ (k : ℕ). every p (range i k)) z
+pub perm-length {ℓ} : {A : Type ℓ} {l m : List A} → List·Permᴰ l m → length l ≡ length m
+perm-length List·Permᴰ·nil = refl
+perm-length (List·Permᴰ·cons e p) = ap suc (perm-length p)
+perm-length (List·Permᴰ·swap e f) = refl
+perm-length (List·Permᴰ·trans p q) = perm-length p ∙ perm-length q
+
+-- ---- a test kept by parts and by stores
+
+module _ {A : Type 0} (p : A → Bool) where
+  pub every-take : (k : ℕ) (l : List A) → T (every p l) → T (every p (take k l))
+  every-take zero l t = tt
+  every-take (suc k) [] t = tt
+  every-take (suc k) (x ∷ l) t =
+      and-both (p x) (every p (take k l)) (and-left (p x) (every p l) t) (every-take k l (and-right (p x) (every p l) t))
+
+  pub every-set : (l : List A) (i : ℕ) (a : A) → T (every p l) → T (p a) → T (every p (set l i a))
+  every-set [] i a t s = tt
+  every-set (x ∷ l) zero a t s = and-both (p a) (every p l) s (and-right (p x) (every p l) t)
+  every-set (x ∷ l) (suc i) a t s =
+      and-both (p x) (every p (set l i a)) (and-left (p x) (every p l) t) (every-set l i a (and-right (p x) (every p l) t) s)
+
+  pub every-sets : (vs l : List A) (i : ℕ) → T (every p l) → T (every p vs) → T (every p (sets l i vs))
+  every-sets [] l i t s = t
+  every-sets (a ∷ vs) l i t s =
+      every-sets vs (set l i a) (suc i) (every-set l i a t (and-left (p a) (every p vs) s)) (and-right (p a) (every p vs) s)
+
+-- the first elements after a run of stores
+pub take-sets : {A : Type 0} (vs l : List A) (k : ℕ) → length vs ≡ k → k ≤ length l → take k (sets l 0 vs) ≡ vs
+take-sets vs l k e h = ap (take k) (sets-eq vs l 0 (omega arith)) ∙ take-at vs (drop (0 + length vs) l) k e
+
+-- ---- k elements in front of the others
+
+pub front-take : {A : Type 0} (k : ℕ) (t l : List A) → length t ≡ length (take k l) → take k (t ++ drop k l) ≡ t
+front-take zero [] l h = refl
+front-take zero (x ∷ t) l h = absurd (omega arith)
+front-take (suc k) [] [] h = refl
+front-take (suc k) (x ∷ t) [] h = absurd (omega arith)
+front-take (suc k) [] (y ∷ l) h = absurd (omega arith)
+front-take (suc k) (x ∷ t) (y ∷ l) h = ap {B = List _} (λ r. x ∷ r) (front-take k t l (omega arith))
+
+pub front-drop : {A : Type 0} (k : ℕ) (t l : List A) → length t ≡ length (take k l) → drop k (t ++ drop k l) ≡ drop k l
+front-drop zero [] l h = refl
+front-drop zero (x ∷ t) l h = absurd (omega arith)
+front-drop (suc k) [] [] h = refl
+front-drop (suc k) (x ∷ t) [] h = absurd (omega arith)
+front-drop (suc k) [] (y ∷ l) h = absurd (omega arith)
+front-drop (suc k) (x ∷ t) (y ∷ l) h = front-drop k t l (omega arith)
+
+pub all-range : (P : ℕ → Type 0) (a k : ℕ) → All P (range a k) → (i : ℕ) → a ≤ i → i < a + k → P i
+all-range P a zero h i l u = absurd (omega arith)
+all-range P a (suc k) h i l u = go (ℕ-discrete i a) (all-range P (suc a) k (h .1) i)
+  where
+    go : Dec (i ≡ a) → (suc a ≤ i → i < suc a + k → P i) → P i
+    go (yes e) ih = subst P (sym e) (h .0)
+    go (no f) ih = ih (omega arith) (omega arith)
+
+-- a place that its change leaves as it is
+pub place-same : {A : Type 0} (i : ℕ) (r : A → A) (t : List A) (d : A) → r (getD t i d) ≡ getD t i d → onPlace i r t ≡ t
+place-same i r [] d h = refl
+place-same zero r (x ∷ t) d h = ap {B = List _} (λ y. y ∷ t) h
+place-same (suc i) r (x ∷ t) d h = ap {B = List _} (λ l. x ∷ l) (place-same i r t d h)
+
+pub same-place : {A : Type 0} (i : ℕ) (r : A → A) (t : List A) (d : A) → i < length t → onPlace i r t ≡ t → r (getD t i d) ≡ getD t i d
+same-place i r [] d h e = absurd (omega arith)
+same-place zero r (x ∷ t) d h e = cc
+same-place (suc i) r (x ∷ t) d h e = same-place i r t d (omega arith) (cc)

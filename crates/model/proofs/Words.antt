@@ -5,14 +5,14 @@ use Prim.Native.Nat.{ℕ, zero, suc, _+_, _-_, _*_, _/_, _%_, _^_, _≤_, _<_, m
 use native.Mathlib.Nat.{le-refl, le-trans, le-antisymm, div-add-mod', div-one, div-div-eq-div-mul, pow-zero, pow-suc, pow-succ'}
 use native.Mathlib.Omega.{arith}
 use native.Mathlib.Decide.{decLt}
-use mathlib.Core.Bool.{Bool, true, false}
+use mathlib.Core.Bool.{Bool, true, false, cond, not, _&&_, _||_}
 use borrow.Author.Tests.{eqb-true, eqb-false}
 use lib.Dec.{T, eqb, eqb→eq, eqb-refl}
 use lib.Arith.{bin-ind, digits-div, digits-mod}
 use lib.Bits.{bitAnd, bitOr, bitXor, differ, and-step, or-step, xor-step}
 use lib.Count.{ones, ones-step, ones-le}
 use lib.Pow.{pow-pos}
-use Rattle.model.specs.Words.{full, less, sizeIn, size, inside, bit, has}
+use Rattle.model.specs.Words.{full, less, sizeIn, size, inside, bit, has, wordWhere}
 
 -- ---- a bit
 
@@ -245,3 +245,122 @@ size-less a b s = size-apart (less a b) b a
           bit-first z,
           ih (x / 2) (y / 2) (λ e. omega (arith, h (suc e), bit-next e x, bit-next e y, bit-next e z)),
         )) z x y
+
+-- ---- membership as a test
+
+pub bit-has : (e w : ℕ) → bit e w ≡ cond (has w e) 1 0
+unfolding has
+bit-has e w = go (eqb (bit e w) 1) refl
+  where
+    go : (b : Bool) → eqb (bit e w) 1 ≡ b → bit e w ≡ cond b 1 0
+    go true q = eqb-true (bit e w) 1 q
+    go false q = omega (arith, bit-le e w, eqb-false (bit e w) 1 q)
+
+pub has-bit : (e w : ℕ) (x : Bool) → bit e w ≡ cond x 1 0 → has w e ≡ x
+unfolding has
+has-bit e w true h = rw h
+has-bit e w false h = rw h
+
+pub has-zero : (e : ℕ) → has 0 e ≡ false
+has-zero e = has-bit e 0 false (bit-zero e)
+
+pub has-and : (a b e : ℕ) → has (bitAnd a b) e ≡ (has a e && has b e)
+has-and a b e =
+    has-bit e (bitAnd a b) (has a e && has b e) (bit-and e a b ∙ rw (bit-has e a, bit-has e b) (table (has a e) (has b e)))
+  where
+    table : (x y : Bool) → min (cond x 1 0) (cond y 1 0) ≡ cond (x && y) 1 0
+    table true true = refl
+    table true false = refl
+    table false true = refl
+    table false false = refl
+
+pub has-or : (a b e : ℕ) → has (bitOr a b) e ≡ (has a e || has b e)
+has-or a b e =
+    has-bit e (bitOr a b) (has a e || has b e) (bit-or e a b ∙ rw (bit-has e a, bit-has e b) (table (has a e) (has b e)))
+  where
+    table : (x y : Bool) → max (cond x 1 0) (cond y 1 0) ≡ cond (x || y) 1 0
+    table true true = refl
+    table true false = refl
+    table false true = refl
+    table false false = refl
+
+pub has-less : (a b e : ℕ) → has (less a b) e ≡ (has a e && not (has b e))
+has-less a b e =
+    has-bit e (less a b) (has a e && not (has b e)) (bit-less e a b ∙ rw (bit-has e a, bit-has e b) (table (has a e) (has b e)))
+  where
+    table : (x y : Bool) → cond x 1 0 - cond y 1 0 ≡ cond (x && not y) 1 0
+    table true true = refl
+    table true false = refl
+    table false true = refl
+    table false false = refl
+
+-- a word below 2 ^ n has no member past n
+pub has-past : (n w e : ℕ) → w < 2 ^ n → n ≤ e → has w e ≡ false
+has-past n w e h l = has-bit e w false (bit-past n e w h l)
+
+pub has-ext : (a b : ℕ) → ((e : ℕ) → has a e ≡ has b e) → a ≡ b
+has-ext a b h = bit-ext a b (λ e. bit-has e a ∙ ap (λ (x : Bool). cond x 1 0) (h e) ∙ sym (bit-has e b))
+
+pub has-sub : (a b : ℕ) → ((e : ℕ) → T (has a e) → T (has b e)) → Sub a b
+has-sub a b h = record { at = λ e. rw (bit-has e a, bit-has e b) (table (has a e) (has b e) (h e)) }
+  where
+    table : (x y : Bool) → (T x → T y) → cond x 1 0 ≤ cond y 1 0
+    table true true f = le-refl 1
+    table true false f = absurd (f tt)
+    table false true f = omega arith
+    table false false f = le-refl 0
+
+pub sub-has : (a b : ℕ) → Sub a b → (e : ℕ) → T (has a e) → T (has b e)
+sub-has a b s e = table (has a e) (has b e) (rw (bit-has e a, bit-has e b) at (s .at e))
+  where
+    table : (x y : Bool) → cond x 1 0 ≤ cond y 1 0 → T x → T y
+    table true true l t = tt
+    table true false l t = absurd (omega arith)
+    table false true l t = tt
+    table false false l t = t
+
+-- ---- the word of the bits below n that pass a test
+
+pub where-lt : (p : ℕ → Bool) (n : ℕ) → wordWhere p n < 2 ^ n
+unfolding wordWhere
+where-lt p zero = omega arith
+where-lt p (suc n) = go (p n) (where-lt p n)
+  where
+    go : (b : Bool) → wordWhere p n < 2 ^ n → wordWhere p n + cond b (2 ^ n) 0 < 2 ^ suc n
+    go true h = omega arith
+    go false h = omega arith
+
+bit-below : (n e a : ℕ) → a < 2 ^ n → e < n → bit e (a + 2 ^ n) ≡ bit e a
+bit-below zero e a h l = omega arith
+bit-below (suc n) zero a h l = rw (bit-first (a + 2 ^ suc n), bit-first a) (omega arith)
+bit-below (suc n) (suc e) a h l =
+    rw (bit-next e (a + 2 ^ suc n), bit-next e a) (ap (bit e) (omega arith) ∙ bit-below n e (a / 2) (omega arith) (omega arith))
+
+bit-top : (n a : ℕ) → a < 2 ^ n → bit n (a + 2 ^ n) ≡ 1
+bit-top zero a h = rw (bit-first (a + 2 ^ 0)) (omega arith)
+bit-top (suc n) a h = rw (bit-next n (a + 2 ^ suc n)) (ap (bit n) (omega arith) ∙ bit-top n (a / 2) (omega arith))
+
+pub has-where : (p : ℕ → Bool) (n e : ℕ) → e < n → has (wordWhere p n) e ≡ p e
+unfolding wordWhere
+has-where p zero e l = absurd (omega arith)
+has-where p (suc n) e l = go (decLt e n) (p n) refl (has-where p n e)
+  where
+    w : ℕ
+    w = wordWhere p n
+
+    go : Dec (e < n) → (b : Bool) → p n ≡ b → (e < n → has w e ≡ p e) → has (w + cond b (2 ^ n) 0) e ≡ p e
+    go (yes k) true q ih = has-bit e (w + 2 ^ n) (p e) (bit-below n e w (where-lt p n) k ∙ bit-has e w ∙ ap (λ (b : Bool). cond b 1 0) (ih k))
+    go (yes k) false q ih = ap (λ (x : ℕ). has x e) (native.Mathlib.Nat.add-zero w) ∙ ih k
+    go (no f) true q ih =
+        let i : e ≡ n = omega arith in
+        rw i (has-bit n (w + 2 ^ n) (p n) (bit-top n w (where-lt p n) ∙ sym (ap (λ (b : Bool). cond b 1 0) q)))
+    go (no f) false q ih =
+        let i : e ≡ n = omega arith in
+        rw (i, native.Mathlib.Nat.add-zero w, q) (has-past n w n (where-lt p n) (le-refl n))
+
+pub where-sub : (p q : ℕ → Bool) (n : ℕ) → ((e : ℕ) → T (p e) → T (q e)) → Sub (wordWhere p n) (wordWhere q n)
+where-sub p q n h = has-sub (wordWhere p n) (wordWhere q n) (λ e. go e (decLt e n))
+  where
+    go : (e : ℕ) → Dec (e < n) → T (has (wordWhere p n) e) → T (has (wordWhere q n) e)
+    go e (yes l) t = rw (has-where q n e l) (h e (rw (has-where p n e l) at t))
+    go e (no f) t = absurd (rw (has-past n (wordWhere p n) e (where-lt p n) (omega arith)) at t)

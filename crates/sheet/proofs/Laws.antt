@@ -13,7 +13,7 @@ use lib.Dec.{eqb}
 use lib.ListN.{length, take, drop, getD, length-drop, drop-of-length-le}
 use lib.Pow.{shl-exact, pow-pos}
 use lib.Seq.{take-all}
-use Rattle.model.proofs.Lists.{drop-next}
+use Rattle.model.proofs.Loops.{drop-next}
 use Rattle.model.specs.Words.{wordWhere}
 use Rattle.model.specs.Sheet.{afterSpaces, digitsAfter}
 use Rattle.sheet.specs.Line.{lineLength}

@@ -3,7 +3,7 @@ use Prim.Native.Nat.{_≤_, _-_}
 use mathlib.Core.Path.{_≡_, refl}
 use lib.ListN.{drop, take}
 use Rattle.model.specs.Lists.{every, between}
-use Rattle.model.proofs.Lists.{every-goes, every-stops, every-done}
+use Rattle.model.proofs.Loops.{every-goes, every-stops, every-done}
 use native.Mathlib.Omega.{arith}
 use borrow.Author.Tests.{le-leb, lt-leb}
 use Rattle.model.proofs.all_between.Statement.{statement}

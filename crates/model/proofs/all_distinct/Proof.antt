@@ -3,7 +3,7 @@ use Prim.Native.Nat.{_≤_, _-_}
 use mathlib.Core.Path.{_≡_, refl, _∙_, sym}
 use lib.ListN.{drop, take}
 use Rattle.model.specs.Lists.{distinct}
-use Rattle.model.proofs.Lists.{distinct-goes, distinct-stops, distinct-done}
+use Rattle.model.proofs.Loops.{distinct-goes, distinct-stops, distinct-done}
 use native.Mathlib.Omega.{arith}
 use borrow.Author.Needs.{needs}
 use Rattle.model.proofs.all_distinct.Statement.{statement}

@@ -4,7 +4,7 @@ use mathlib.Core.Path.{_≡_, refl, _∙_, sym}
 use lib.ListN.{drop, take}
 use Rattle.model.specs.Lists.{every}
 use Rattle.model.specs.Model.{constraintInRange}
-use Rattle.model.proofs.Lists.{every-goes, every-stops, every-done}
+use Rattle.model.proofs.Loops.{every-goes, every-stops, every-done}
 use native.Mathlib.Omega.{arith}
 use borrow.Author.Needs.{needs}
 use borrow.Author.Tests.{not-true, not-false}

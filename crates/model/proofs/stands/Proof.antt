@@ -4,7 +4,7 @@ use mathlib.Core.Path.{_≡_, refl}
 use lib.Dec.{eqb}
 use lib.ListN.{drop, take}
 use Rattle.model.specs.Lists.{any}
-use Rattle.model.proofs.Lists.{any-goes, any-found, any-done}
+use Rattle.model.proofs.Loops.{any-goes, any-found, any-done}
 use native.Mathlib.Omega.{arith}
 use borrow.Author.Tests.{eq-eqb, ne-eqb}
 use Rattle.model.proofs.stands.Statement.{statement}

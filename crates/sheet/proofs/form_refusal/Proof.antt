@@ -6,7 +6,7 @@ use native.Mathlib.Nat.{sub-zero}
 use lib.ListN.{length}
 use Rattle.model.specs.Lists.{every, range}
 use Rattle.model.specs.Sheet.{goodField, formRefusal}
-use Rattle.model.proofs.Lists.{range-goes, range-stops, range-done}
+use Rattle.model.proofs.Loops.{range-goes, range-stops, range-done}
 use native.Mathlib.Omega.{arith}
 use borrow.Author.Needs.{needs}
 use borrow.Author.Tests.{eq-eqb, ne-eqb}

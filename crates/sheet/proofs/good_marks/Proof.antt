@@ -5,7 +5,7 @@ use native.Mathlib.Nat.{sub-zero}
 use lib.Dec.{leb}
 use Rattle.model.specs.Lists.{every, range}
 use Rattle.model.specs.Sheet.{markAt}
-use Rattle.model.proofs.Lists.{range-goes, range-stops, range-done}
+use Rattle.model.proofs.Loops.{range-goes, range-stops, range-done}
 use Rattle.sheet.specs.Line.{goodMark}
 use native.Mathlib.Omega.{arith}
 use borrow.Author.Needs.{needs}

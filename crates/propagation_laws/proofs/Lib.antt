@@ -1,0 +1,11 @@
+pub mod Fixpoint
+pub mod Tables
+pub mod GroupRule
+pub mod ConstraintRule
+pub mod Meaning
+pub mod Ranges
+pub mod Points
+pub mod Propagation
+pub mod Lines
+pub mod Sheets
+pub mod Unchanged

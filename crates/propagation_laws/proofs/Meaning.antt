@@ -1,0 +1,268 @@
+-- Each code's meaning as sets is what its clauses say of every entrant, both ways, for every code. Assumes nothing.
+use mathlib.Core.Path.{_≡_, refl, sym, ap, ap₂, _∙_, subst}
+use mathlib.Core.Logic.{_↔_}
+use Prim.Native.Nat.{ℕ, zero, suc, _-_, _^_, _≤_, _<_}
+use native.Mathlib.Numerals.{add-one}
+use native.Mathlib.Omega.{arith}
+use native.Mathlib.Decide.{decLt}
+use mathlib.Core.Bool.{Bool, true, false, not, _&&_, _||_}
+use mathlib.Core.List.{List, [], _∷_, map, map-map}
+use lib.Dec.{T, leb, eqb, eqb→eq, eqb-refl, leb→le, lit≤}
+use lib.Bits.{bitAnd, bitOr}
+use lib.ListN.{length, getD, take}
+use Rattle.model.specs.declared.Literal.{Literal}
+use Rattle.model.specs.declared.Literal.the-variants.{Pos, Neg}
+use Rattle.model.specs.declared.Constraint.{Constraint}
+use Rattle.model.specs.Lists.{every, any, range, between}
+use Rattle.model.specs.Words.{less, has}
+use Rattle.model.specs.Clauses.{memberCount, shortClauses, unionClauses, memberClauses, ofGroup, groupsOf, clausesOf}
+use Rattle.model.specs.Model.{codeInRange}
+use Rattle.model.specs.Limits.{limits}
+use Rattle.model.specs.Solution.{union, meaning, setOf, constraintTrue}
+use Rattle.model.proofs.Lists.{and-left, and-right, any-append, every-map, any-map, every-ext, any-ext, take-places}
+use Rattle.model.proofs.Words.{has-zero, has-and, has-or, has-less, has-past, has-ext, has-sub, sub-has, inside-sub, sub-inside}
+
+-- ---- literals, clauses and constraints for one entrant: v says in which groups the entrant is
+
+unfoldable pub literalFor : (ℕ → Bool) → Literal → Bool
+literalFor v (Pos g) = v g
+literalFor v (Neg g) = not (v g)
+
+unfoldable pub clausesFor : (ℕ → Bool) → List (List Literal) → Bool
+clausesFor v cs = every (any (literalFor v)) cs
+
+unfoldable pub clausesHold : List ℕ → Constraint → ℕ → Bool
+clausesHold d c e = clausesFor (λ g. has (setOf d g) e) (clausesOf c)
+
+-- ---- the clauses over groups are those over members
+
+of-group : (v : ℕ → Bool) (gs : List ℕ) (l : Literal) → literalFor v (ofGroup gs l) ≡ literalFor (λ i. v (getD gs i 0)) l
+unfolding literalFor ofGroup
+of-group v gs (Pos i) = refl
+of-group v gs (Neg i) = refl
+
+pub over-members : (v : ℕ → Bool) (c : Constraint)
+    → clausesFor v (clausesOf c) ≡ clausesFor (λ i. v (getD (c .groups) i 0)) (memberClauses (c .code) (c .count))
+unfolding clausesFor clausesOf
+over-members v c =
+    every-map (any (literalFor v)) (map (ofGroup (c .groups))) (memberClauses (c .code) (c .count))
+    ∙ every-ext (λ ls. any (literalFor v) (map (ofGroup (c .groups)) ls)) (any (literalFor (λ i. v (getD (c .groups) i 0))))
+    (λ ls. any-map (literalFor v) (ofGroup (c .groups)) ls
+    ∙ any-ext (λ l. literalFor v (ofGroup (c .groups) l)) (literalFor (λ i. v (getD (c .groups) i 0))) (of-group v (c .groups)) ls)
+    (memberClauses (c .code) (c .count))
+
+-- ---- the union
+
+has-union : (e : ℕ) (ws : List ℕ) → has (union ws) e ≡ any (λ w. has w e) ws
+unfolding union
+has-union e [] = has-zero e
+has-union e (w ∷ ws) = has-or w (union ws) e ∙ ap (λ b. has w e || b) (has-union e ws)
+
+-- "not any, or b", element by element
+none-or : (x : ℕ → Bool) (b : Bool) (l : List ℕ) → every (λ i. not (x i) || (b || false)) l ≡ (not (any x l) || b)
+none-or x b [] = refl
+none-or x b (i ∷ l) = ap (λ t. (not (x i) || (b || false)) && t) (none-or x b l) ∙ table (x i) (any x l) b
+  where
+    table : (p q b : Bool) → ((not p || (b || false)) && (not q || b)) ≡ (not (p || q) || b)
+    table true true true = refl
+    table true true false = refl
+    table true false true = refl
+    table true false false = refl
+    table false true true = refl
+    table false true false = refl
+    table false false true = refl
+    table false false false = refl
+
+union-clauses : (k : ℕ) (x : ℕ → Bool)
+    → clausesFor x (unionClauses k) ≡ ((any x (range 1 k) || (not (x 0) || false)) && (not (any x (range 1 k)) || x 0))
+unfolding clausesFor unionClauses literalFor
+union-clauses k x =
+    ap₂ _&&_
+    (any-append (literalFor x) (map Pos (range 1 k)) (Neg 0 ∷ [])
+    ∙ ap (λ b. b || (not (x 0) || false)) (any-map (literalFor x) Pos (range 1 k)))
+    (every-map (any (literalFor x)) (λ i. Neg i ∷ Pos 0 ∷ []) (range 1 k) ∙ none-or x (x 0) (range 1 k))
+
+-- ---- each code, for one entrant: the clauses say that the first set has it exactly when the meaning says so
+
+-- two sets are equal when each entrant's clauses hold
+module _ (a b : ℕ) (says : ℕ → Bool) (is : (e : ℕ) → T (says e) ↔ (has a e ≡ has b e)) where
+  equal-sets : T (eqb a b) ↔ ((e : ℕ) → T (says e))
+  equal-sets = (
+    (λ t e. is e .1 (ap (λ (w : ℕ). has w e) (eqb→eq a b t))),
+    (λ h. subst (λ (w : ℕ). T (eqb a w)) (has-ext a b (λ e. is e .0 (h e))) (eqb-refl a)),
+  )
+
+within-table : (x y : Bool) → T ((not x || (y || false)) && true) ↔ (T x → T y)
+within-table true true = ((λ t s. tt), (λ f. tt))
+within-table true false = ((λ t s. t), (λ f. f tt))
+within-table false true = ((λ t s. tt), (λ f. tt))
+within-table false false = ((λ t s. s), (λ f. tt))
+
+-- a test that says x is `value y z`, by its eight rows
+abbrev agree : Bool → Bool → Bool
+agree true b = b
+agree false b = not b
+
+agree-eq : (a b : Bool) → T (agree a b) ↔ (a ≡ b)
+agree-eq true true = ((λ t. refl), (λ e. tt))
+agree-eq true false = ((λ t. absurd t), (λ e. subst T e tt))
+agree-eq false true = ((λ t. absurd t), (λ e. subst T (sym e) tt))
+agree-eq false false = ((λ t. refl), (λ e. tt))
+
+abbrev both : (Bool → Bool) → Bool
+both p = p true && p false
+
+both-all : (p : Bool → Bool) → T (both p) → (b : Bool) → T (p b)
+both-all p t true = and-left (p true) (p false) t
+both-all p t false = and-right (p true) (p false) t
+
+module _ (says : Bool → Bool → Bool → Bool) (value : Bool → Bool → Bool) where
+  abbrev row : Bool → Bool → Bool → Bool
+  row x y z = agree (says x y z) (agree x (value y z))
+
+  abbrev rows : Bool
+  rows = both (λ x. both (λ y. both (λ z. row x y z)))
+
+  by-rows : T rows → (x y z : Bool) → T (says x y z) ↔ (x ≡ value y z)
+  by-rows t x y z =
+      let here = both-all (λ z. row x y z) (both-all (λ y. both (λ z. row x y z)) (both-all (λ x. both (λ y. both (λ z. row x y z))) t x) y) z in
+      subst (λ (b : Bool). T b ↔ (x ≡ value y z)) (sym (agree-eq (says x y z) (agree x (value y z)) .0 here)) (agree-eq x (value y z))
+
+-- ---- each code; the set of member i is S i
+
+pub by-code : (P : ℕ → Type 0) → P 1 → P 2 → P 3 → P 4 → P 5 → P 6 → (code : ℕ) → T (between 1 6 code) → P code
+by-code P a b c d e f zero t = absurd t
+by-code P a b c d e f (suc zero) t = a
+by-code P a b c d e f (suc (suc zero)) t = b
+by-code P a b c d e f (suc (suc (suc zero))) t = c
+by-code P a b c d e f (suc (suc (suc (suc zero)))) t = d
+by-code P a b c d e f (suc (suc (suc (suc (suc zero))))) t = e
+by-code P a b c d e f (suc (suc (suc (suc (suc (suc zero)))))) t = f
+by-code P a b c d e f (suc (suc (suc (suc (suc (suc (suc m))))))) t =
+    let code = suc (suc (suc (suc (suc (suc (suc m)))))) in
+    absurd (let h = leb→le code 6 (and-right (leb 1 code) (leb code 6) t) in omega arith)
+
+module _ (k : ℕ) (S : ℕ → ℕ) where
+  abbrev Says : ℕ → Type 0
+  Says code = T (meaning code (map S (range 0 (memberCount code k)))) ↔ ((e : ℕ) → T (clausesFor (λ i. has (S i) e) (memberClauses code k)))
+
+  -- the first set is b, and b has the entrants for whom `value` is true
+  is-set : (b : ℕ) (says : Bool → Bool → Bool → Bool) (value : Bool → Bool → Bool) (y z : ℕ → Bool)
+      → T (rows says value) → ((e : ℕ) → has b e ≡ value (y e) (z e)) → T (eqb (S 0) b) ↔ ((e : ℕ) → T (says (has (S 0) e) (y e) (z e)))
+  is-set b says value y z t members = equal-sets (S 0) b (λ e. says (has (S 0) e) (y e) (z e))
+      (λ e. rw (members e) (by-rows says value t (has (S 0) e) (y e) (z e)))
+
+  code1 : Says 1
+  unfolding meaning memberCount memberClauses shortClauses clausesFor literalFor
+  code1 =
+      is-set (S 1) (λ x y z. (not x || (y || false)) && ((x || (not y || false)) && true)) (λ y z. y) (λ e. has (S 1) e) (λ e. true) tt (λ e. refl)
+
+  code2 : Says 2
+  unfolding meaning memberCount memberClauses shortClauses clausesFor literalFor
+  code2 = (
+    (λ t e. within-table (has (S 0) e) (has (S 1) e) .1 (sub-has (S 0) (S 1) (inside-sub (S 0) (S 1) t) e)),
+    (λ h. sub-inside (S 0) (S 1) (has-sub (S 0) (S 1) (λ e. within-table (has (S 0) e) (has (S 1) e) .0 (h e)))),
+  )
+
+  code3 : Says 3
+  unfolding meaning memberCount memberClauses shortClauses clausesFor literalFor
+  code3 =
+      is-set (bitAnd (S 1) (S 2))
+      (λ x y z. (not y || (not z || (x || false))) && ((y || (not x || false)) && ((z || (not x || false)) && true)))
+      _&&_ (λ e. has (S 1) e) (λ e. has (S 2) e) tt (has-and (S 1) (S 2))
+
+  code4 : Says 4
+  unfolding meaning memberCount memberClauses shortClauses clausesFor literalFor
+  code4 =
+      is-set (bitOr (S 1) (S 2))
+      (λ x y z. (y || (z || (not x || false))) && ((not y || (x || false)) && ((not z || (x || false)) && true)))
+      _||_ (λ e. has (S 1) e) (λ e. has (S 2) e) tt (has-or (S 1) (S 2))
+
+  code5 : Says 5
+  unfolding meaning memberCount memberClauses shortClauses clausesFor literalFor
+  code5 =
+      is-set (less (S 1) (S 2))
+      (λ x y z. (not y || (z || (x || false))) && ((y || (not x || false)) && ((not z || (not x || false)) && true)))
+      (λ y z. y && not z) (λ e. has (S 1) e) (λ e. has (S 2) e) tt (has-less (S 1) (S 2))
+
+  code6 : Says 6
+  unfolding meaning memberCount memberClauses
+  code6 =
+      let u : ℕ → Bool = λ e. any (λ i. has (S i) e) (range 1 k) in
+      let is = is-set (union (map S (range 1 k))) (λ x y z. (y || (not x || false)) && (not y || x)) (λ y z. y) u (λ e. true) tt
+      (λ e. has-union e (map S (range 1 k)) ∙ any-map (λ w. has w e) S (range 1 k)) in
+      rw (add-one k) (
+        (λ t e. subst T (sym (union-clauses k (λ i. has (S i) e))) (is .0 t e)),
+        (λ h. is .1 (λ e. subst T (union-clauses k (λ i. has (S i) e)) (h e))),
+      )
+
+  by-members : (code : ℕ) → T (between 1 6 code) → Says code
+  by-members = by-code Says code1 code2 code3 code4 code5 code6
+
+-- ---- a constraint
+
+-- its list has its groups, as an array of 17 does
+unfoldable pub hasMembers : Constraint → Bool
+hasMembers c = leb (memberCount (c .code) (c .count)) (length (c .groups))
+
+-- at most 17
+pub member-bound : (c : Constraint) → T (codeInRange (c .code) (c .count)) → memberCount (c .code) (c .count) ≤ limits .members
+unfolding codeInRange
+member-bound c r =
+    let k = c .count in
+    let a = between 1 6 (c .code) in
+    let b = not (eqb (c .code) 6) || between 2 (limits .members - 1) k in
+    by-code (λ code. T (not (eqb code 6) || between 2 (limits .members - 1) k) → memberCount code k ≤ limits .members)
+    (λ t. unfold memberCount in lit≤ tt) (λ t. unfold memberCount in lit≤ tt) (λ t. unfold memberCount in lit≤ tt) (λ t. unfold memberCount in lit≤ tt)
+    (λ t. unfold memberCount in lit≤ tt)
+    (λ t. unfold memberCount in (let h = leb→le k 16 (and-right (leb 2 k) (leb k 16) t) in omega arith)) (c .code) (and-left a b r) (and-right a b r)
+
+pub meaning-clauses : (c : Constraint) → T (codeInRange (c .code) (c .count)) → T (hasMembers c) → (d : List ℕ)
+    → T (constraintTrue d c) ↔ ((e : ℕ) → T (clausesHold d c e))
+unfolding codeInRange hasMembers constraintTrue groupsOf clausesHold
+meaning-clauses c r h d =
+    let mc = memberCount (c .code) (c .count) in
+    let S : ℕ → ℕ = λ i. setOf d (getD (c .groups) i 0) in
+    let is = by-members (c .count) S (c .code) (and-left (between 1 6 (c .code)) (not (eqb (c .code) 6) || between 2 (limits .members - 1) (c .count)) r) in
+    let sets : map (setOf d) (take mc (c .groups)) ≡ map S (range 0 mc) =
+    ap (map (setOf d)) (take-places 0 (c .groups) mc (leb→le mc (length (c .groups)) h)) ∙ map-map (setOf d) (λ i. getD (c .groups) i 0) (range 0 mc) in (
+      (λ t e. subst T (sym (over-members (λ g. has (setOf d g) e) c)) (is .0 (subst (λ (ws : List ℕ). T (meaning (c .code) ws)) sets t) e)),
+      (λ k. subst (λ (ws : List ℕ). T (meaning (c .code) ws)) (sym sets)
+          (is .1 (λ e. subst T (over-members (λ g. has (setOf d g) e) c) (k e)))),
+    )
+
+-- ---- words below 2 ^ n: only the entrants below n count, for a clause has a literal with a minus sign
+
+any-none : (l : List ℕ) → any (λ i. false) l ≡ false
+any-none [] = refl
+any-none (x ∷ l) = any-none l
+
+none : (k code : ℕ) → T (between 1 6 code) → T (clausesFor (λ i. false) (memberClauses code k))
+unfolding memberClauses shortClauses clausesFor literalFor
+none k = by-code (λ code. T (clausesFor (λ i. false) (memberClauses code k))) tt tt tt tt tt
+    (subst T (sym (union-clauses k (λ i. false))) (rw (any-none (range 1 k)) tt))
+
+same-clauses : (v u : ℕ → Bool) → ((i : ℕ) → v i ≡ u i) → (cs : List (List Literal)) → clausesFor v cs ≡ clausesFor u cs
+unfolding clausesFor literalFor
+same-clauses v u h cs = every-ext (any (literalFor v)) (any (literalFor u)) (any-ext (literalFor v) (literalFor u) literal) cs
+  where
+    literal : (l : Literal) → literalFor v l ≡ literalFor u l
+    literal (Pos i) = h i
+    literal (Neg i) = ap not (h i)
+
+pub meaning-below : (c : Constraint) → T (codeInRange (c .code) (c .count)) → T (hasMembers c) → (n : ℕ) (d : List ℕ) → ((g : ℕ) → setOf d g < 2 ^ n)
+    → T (constraintTrue d c) ↔ ((e : ℕ) → e < n → T (clausesHold d c e))
+unfolding codeInRange clausesHold
+meaning-below c r h n d small =
+    let is = meaning-clauses c r h d in
+    ((λ t e l. is .0 t e), (λ k. is .1 (λ e. go e k (decLt e n))))
+  where
+    go : (e : ℕ) → ((e : ℕ) → e < n → T (clausesHold d c e)) → Dec (e < n) → T (clausesHold d c e)
+    go e k (yes l) = k e l
+    go e k (no f) =
+        subst T
+        (sym (over-members (λ g. has (setOf d g) e) c
+        ∙ same-clauses (λ i. has (setOf d (getD (c .groups) i 0)) e) (λ i. false)
+        (λ i. has-past n (setOf d (getD (c .groups) i 0)) e (small (getD (c .groups) i 0)) (omega arith))
+        (memberClauses (c .code) (c .count))))
+        (none (c .count) (c .code) (and-left (between 1 6 (c .code)) (not (eqb (c .code) 6) || between 2 (limits .members - 1) (c .count)) r))

@@ -1,0 +1,223 @@
+-- A solution as a table that allows nothing else: it is a candidate, so no rule loses it. Assumes nothing.
+use mathlib.Core.Path.{_≡_, refl, sym, ap, ap₂, _∙_, subst}
+use Prim.Native.Nat.{ℕ, _-_}
+use native.Mathlib.Nat.{le-refl}
+use native.Mathlib.Omega.{arith}
+use mathlib.Core.Bool.{Bool, true, false, cond, not, _&&_, _||_}
+use mathlib.Core.List.{List, [], _∷_, _++_, map}
+use lib.Dec.{T, leb, eqb}
+use lib.Bits.{bitAnd, bitOr, and-self, or-self}
+use lib.ListN.{List·getD-map}
+use Rattle.model.specs.declared.Literal.{Literal}
+use Rattle.model.specs.declared.Literal.the-variants.{Pos, Neg}
+use Rattle.model.specs.declared.Group.{Group}
+use Rattle.model.specs.declared.Constraint.{Constraint}
+use Rattle.model.specs.declared.Model.{Model}
+use Rattle.model.specs.Lists.{every, any, pairwise, range}
+use Rattle.model.specs.Words.{full, less, sizeIn, size, inside, has}
+use Rattle.model.specs.Clauses.{clausesOf}
+use Rattle.model.specs.Model.{zeroGroup, tableOf, constraintsOf, groupAt, constraintInRange, inRange}
+use Rattle.model.specs.Propagate.{limited, cut, filled, groupRule, falseIn, allFalse, fixedWith, possibleWithout, madeTrue, literalRule, clauseRules, clauseRule, constraintRule, groupRuleAt, rules, groupConsistent, consistent, sameTable}
+use Rattle.model.specs.Demand.{groupWithin, within, unchanged, isCandidate}
+use Rattle.model.specs.Solution.{allowed, setOf, constraintTrue, isSolution}
+use Rattle.model.proofs.Lists.{place-same, and-left, and-right, and-both, and-assoc, any-append, All, all-of, all-append, all-map, every-all}
+use Rattle.model.proofs.Words.{sub-refl, sub-antisym, sub-or, sub-or-l, has-and, has-less, has-ext, has-sub}
+use Rattle.propagation_laws.proofs.Fixpoint.{Unchanged, whole, run-fixed}
+use Rattle.propagation_laws.proofs.GroupRule.{group-eq, is-consistent}
+use Rattle.propagation_laws.proofs.ConstraintRule.{tableFrame}
+use Rattle.propagation_laws.proofs.Meaning.{literalFor, clausesFor, clausesHold, hasMembers, meaning-clauses}
+use Rattle.propagation_laws.proofs.Ranges.{model-range, constraint-code}
+
+abbrev pub point : ℕ → Group
+point w = record { fixed = w; possible = w; low = size w; high = size w }
+
+abbrev pub points : List ℕ → List Group
+points d = map point d
+
+-- ---- a set is allowed when its point is within
+
+allowed-point : (g : Group) (w : ℕ) → allowed g w ≡ groupWithin (point w) g
+unfolding allowed groupWithin
+allowed-point g w =
+    sym (and-assoc (inside (g .fixed) w && inside w (g .possible)) (leb (g .low) (size w)) (leb (size w) (g .high)))
+
+pub allowed-points : (t : List Group) (d : List ℕ) → pairwise allowed t d ≡ within (points d) t
+unfolding within
+allowed-points [] [] = refl
+allowed-points [] (w ∷ d) = refl
+allowed-points (g ∷ t) [] = refl
+allowed-points (g ∷ t) (w ∷ d) = ap₂ _&&_ (allowed-point g w) (allowed-points t d)
+
+points-consistent : (d : List ℕ) → T (consistent (points d))
+unfolding consistent
+points-consistent [] = tt
+points-consistent (w ∷ d) =
+    and-both (groupConsistent (point w)) (every groupConsistent (points d))
+    (is-consistent (point w) (record { fits = sub-refl w; order = le-refl (size w) })) (points-consistent d)
+
+-- ---- the group rule
+
+cond-same : (b : Bool) (x y : ℕ) → x ≡ y → cond b x y ≡ y
+cond-same true x y e = e
+cond-same false x y e = refl
+
+point-group : (w : ℕ) → groupRule (point w) ≡ point w
+unfolding groupRule limited cut filled
+point-group w = ap filled (ap cut lim ∙ cu) ∙ fi
+  where
+    lim : limited (point w) ≡ point w
+    lim = group-eq (limited (point w)) (point w) refl refl (omega arith) (omega arith)
+
+    cu : cut (point w) ≡ point w
+    cu = group-eq (cut (point w)) (point w) refl (cond-same (eqb (size w) (size w)) (bitAnd w w) w (and-self w)) refl refl
+
+    fi : filled (point w) ≡ point w
+    fi = group-eq (filled (point w)) (point w) (cond-same (eqb (size w) (size w)) (bitOr w w) w (or-self w)) refl refl refl
+
+group-of : (d : List ℕ) (g : ℕ) → groupAt (points d) g ≡ point (setOf d g)
+unfolding groupAt setOf zeroGroup size sizeIn
+group-of d g = List·getD-map point d (g - 1) 0
+
+points-group : (d : List ℕ) (g : ℕ) → groupRuleAt g (points d) ≡ points d
+unfolding groupRuleAt groupAt
+points-group d g = place-same (g - 1) groupRule (points d) zeroGroup (rw (group-of d g) (point-group (setOf d g)))
+
+-- ---- the constraint rule: where a clause has a true literal, its rule changes nothing
+
+module _ (d : List ℕ) where
+  abbrev v : ℕ → ℕ → Bool
+  v e g = has (setOf d g) e
+
+  has-false : (e w : ℕ) (l : Literal) → has (falseIn (points d) w l) e ≡ (has w e && not (literalFor (v e) l))
+  unfolding falseIn literalFor
+  has-false e w (Pos g) = rw (group-of d g) (has-less w (setOf d g) e)
+  has-false e w (Neg g) = rw (group-of d g) (has-and w (setOf d g) e ∙ ap (λ b. has w e && b) (twice (has (setOf d g) e)))
+    where
+      twice : (b : Bool) → b ≡ not (not b)
+      twice true = refl
+      twice false = refl
+
+  has-all-false : (e w : ℕ) (ls : List Literal) → has (allFalse (points d) w ls) e ≡ (has w e && not (any (literalFor (v e)) ls))
+  unfolding allFalse
+  has-all-false e w [] = table (has w e)
+    where
+      table : (b : Bool) → b ≡ (b && true)
+      table true = refl
+      table false = refl
+  has-all-false e w (l ∷ ls) =
+      has-all-false e (falseIn (points d) w l) ls
+      ∙ ap (λ b. b && not (any (literalFor (v e)) ls)) (has-false e w l)
+      ∙ table (has w e) (literalFor (v e) l) (any (literalFor (v e)) ls)
+    where
+      table : (x y z : Bool) → ((x && not y) && not z) ≡ (x && not (y || z))
+      table true true z = refl
+      table true false z = refl
+      table false y z = refl
+
+  -- the entrants for whom a literal is made true have it true
+  made : (n : ℕ) (l : Literal) (others : List Literal) → ((e : ℕ) → T (literalFor (v e) l || any (literalFor (v e)) others))
+      → (e : ℕ) → T (has (allFalse (points d) (full n) others) e) → T (literalFor (v e) l)
+  made n l others h e t =
+      table (has (full n) e) (literalFor (v e) l) (any (literalFor (v e)) others) (h e) (subst T (has-all-false e (full n) others) t)
+    where
+      table : (x y z : Bool) → T (y || z) → T (x && not z) → T y
+      table x true z s t = tt
+      table true false true s t = t
+      table true false false s t = s
+      table false false z s t = t
+
+  fixed-same : (w s : ℕ) → ((e : ℕ) → T (has w e) → T (has s e)) → fixedWith w (point s) ≡ point s
+  unfolding fixedWith
+  fixed-same w s h =
+      group-eq (fixedWith w (point s)) (point s) (sub-antisym (sub-or (sub-refl s) (has-sub w s h)) (sub-or-l s w)) refl refl refl
+
+  possible-same : (w s : ℕ) → ((e : ℕ) → T (has w e) → T (not (has s e))) → possibleWithout w (point s) ≡ point s
+  unfolding possibleWithout
+  possible-same w s h =
+      group-eq (possibleWithout w (point s)) (point s) refl
+      (has-ext (less s w) s (λ e. has-less s w e ∙ table (has s e) (has w e) (h e))) refl refl
+    where
+      table : (x y : Bool) → (T y → T (not x)) → (x && not y) ≡ x
+      table true true f = absurd (f tt)
+      table true false f = refl
+      table false y f = refl
+
+  made-same : (l : Literal) (w : ℕ) → ((e : ℕ) → T (has w e) → T (literalFor (v e) l)) → madeTrue l w (points d) ≡ points d
+  unfolding madeTrue literalFor groupAt
+  made-same (Pos g) w h = place-same (g - 1) (fixedWith w) (points d) zeroGroup (rw (group-of d g) (fixed-same w (setOf d g) h))
+  made-same (Neg g) w h = place-same (g - 1) (possibleWithout w) (points d) zeroGroup (rw (group-of d g) (possible-same w (setOf d g) h))
+
+  literal-same : (n : ℕ) (l : Literal) (others : List Literal) → ((e : ℕ) → T (literalFor (v e) l || any (literalFor (v e)) others))
+      → literalRule n l others (points d) ≡ points d
+  unfolding literalRule
+  literal-same n l others h = made-same l (allFalse (points d) (full n) others) (made n l others h)
+
+  rules-same : (n : ℕ) (before after : List Literal) → ((e : ℕ) → T (any (literalFor (v e)) before || any (literalFor (v e)) after))
+      → Unchanged tableFrame (clauseRules n before after) (points d)
+  unfolding clauseRules
+  rules-same n before [] h = tt
+  rules-same n before (l ∷ after) h = (
+    literal-same n l (before ++ after)
+        (λ e. rw (any-append (literalFor (v e)) before after)
+        (swap (any (literalFor (v e)) before) (literalFor (v e) l) (any (literalFor (v e)) after) (h e))),
+    rules-same n (before ++ (l ∷ [])) after
+        (λ e. rw (any-append (literalFor (v e)) before (l ∷ []))
+        (move (any (literalFor (v e)) before) (literalFor (v e) l) (any (literalFor (v e)) after) (h e))),
+  )
+    where
+      swap : (a b c : Bool) → T (a || (b || c)) → T (b || (a || c))
+      swap true true c t = tt
+      swap true false c t = tt
+      swap false true c t = tt
+      swap false false c t = t
+
+      move : (a b c : Bool) → T (a || (b || c)) → T ((a || (b || false)) || c)
+      move true b c t = tt
+      move false true c t = tt
+      move false false c t = t
+
+  clauses-same : (n : ℕ) (cs : List (List Literal)) → ((e : ℕ) → T (clausesFor (v e) cs)) → All (λ c. clauseRule n c (points d) ≡ points d) cs
+  unfolding clausesFor clauseRule
+  clauses-same n [] h = tt
+  clauses-same n (c ∷ cs) h = (
+    run-fixed tableFrame (clauseRules n [] c) (points d)
+        (rules-same n [] c (λ e. and-left (any (literalFor (v e)) c) (every (any (literalFor (v e))) cs) (h e))),
+    clauses-same n cs (λ e. and-right (any (literalFor (v e)) c) (every (any (literalFor (v e))) cs) (h e)),
+  )
+
+  constraint-same : (n s : ℕ) (c : Constraint) → T (constraintInRange s c) → T (hasMembers c) → T (constraintTrue d c)
+      → constraintRule n c (points d) ≡ points d
+  unfolding constraintRule clausesHold
+  constraint-same n s c r k t =
+      run-fixed tableFrame (map (clauseRule n) (clausesOf c)) (points d)
+      (all-map (λ f. f (points d) ≡ points d) (clauseRule n) (clausesOf c)
+      (clauses-same n (clausesOf c) (meaning-clauses c (constraint-code s c r) k d .0 t)))
+
+  constraints-same : (n s : ℕ) (cs : List Constraint) → All (λ c. T (constraintInRange s c)) cs → All (λ c. T (hasMembers c)) cs
+      → All (λ c. T (constraintTrue d c)) cs → All (λ c. constraintRule n c (points d) ≡ points d) cs
+  constraints-same n s [] r k t = tt
+  constraints-same n s (c ∷ cs) r k t = (constraint-same n s c (r .0) (k .0) (t .0), constraints-same n s cs (r .1) (k .1) (t .1))
+
+-- ---- a solution is a candidate
+
+-- the constraints' lists have their groups, as arrays of 17 do
+pub record Sized (m : Model) : Type 0 where
+  pub members : T (every hasMembers (constraintsOf m))
+
+pub solution-candidate : (m : Model) → T (inRange m) → Sized m → (d : List ℕ) → T (isSolution m d) → T (isCandidate m (points d))
+unfolding isSolution isCandidate consistent unchanged sameTable within rules
+solution-candidate m r k d t =
+    let P : (List Group → List Group) → Type 0 = λ f. f (points d) ≡ points d in
+    let a = pairwise allowed (tableOf m) d in
+    let cs = constraintsOf m in
+    let b = every (constraintTrue d) cs in
+    whole tableFrame (rules (m .n) (m .s) cs) (tableOf m) (points d)
+    (record {
+      consistent = points-consistent d;
+      unchanged = all-append P (map groupRuleAt (range 1 (m .s))) (map (constraintRule (m .n)) cs)
+          (all-map P groupRuleAt (range 1 (m .s)) (all-of (λ g. groupRuleAt g (points d) ≡ points d) (points-group d) (range 1 (m .s))))
+          (all-map P (constraintRule (m .n)) cs
+          (constraints-same d (m .n) (m .s) cs (every-all (constraintInRange (m .s)) cs (model-range m r .lines)) (every-all hasMembers cs (k .members))
+          (every-all (constraintTrue d) cs (and-right a b t))));
+      inside = subst T (allowed-points (tableOf m) d) (and-left a b t);
+    })

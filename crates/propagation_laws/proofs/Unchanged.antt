@@ -1,0 +1,99 @@
+-- What a model that passes refusal 22 tells: its own table is a candidate, and the group rule leaves each group as it is. Assumes nothing.
+use mathlib.Core.Path.{_≡_}
+use Prim.Native.Nat.{ℕ, _-_, _≤_}
+use native.Mathlib.Omega.{arith}
+use mathlib.Core.List.{List, [], _∷_, map}
+use lib.Dec.{T}
+use lib.ListN.{length, length-take}
+use Rattle.model.specs.declared.Literal.{Literal}
+use Rattle.model.specs.declared.Group.{Group}
+use Rattle.model.specs.declared.Constraint.{Constraint}
+use Rattle.model.specs.declared.Model.{Model}
+use Rattle.model.specs.Lists.{range}
+use Rattle.model.specs.Clauses.{clausesOf}
+use Rattle.model.specs.Model.{zeroGroup, tableOf, constraintsOf, groupAt}
+use Rattle.model.specs.Propagate.{groupRule, clauseRules, clauseRule, constraintRule, groupRuleAt, rules, pass, groupConsistent, consistent, sameTable, isFixpoint}
+use Rattle.model.specs.Demand.{within, unchanged, isCandidate}
+use Rattle.model.proofs.Lists.{same-place, T-ext, and-left, and-right, and-both, every-getD, All, all-of, all-left, all-right, all-map, map-all, all-range}
+use Rattle.propagation_laws.proofs.Fixpoint.{Rule, Unchanged, Candidate, parts, whole, all-reduce, run-unchanged, run-fixed}
+use Rattle.propagation_laws.proofs.GroupRule.{Calm, calm}
+use Rattle.propagation_laws.proofs.ConstraintRule.{tableFrame, clause-rules, clause-rule, all-rules}
+
+module _ (m : Model) where
+  abbrev rs : List (List Group → List Group)
+  rs = rules (m .n) (m .s) (constraintsOf m)
+
+  pub fixpoint-candidate : isFixpoint m ≡ isCandidate m (tableOf m)
+  unfolding isFixpoint isCandidate consistent unchanged sameTable within pass
+  fixpoint-candidate = T-ext (isFixpoint m) (isCandidate m (tableOf m)) to from
+    where
+      t : List Group
+      t = tableOf m
+
+      to : T (isFixpoint m) → T (isCandidate m (tableOf m))
+      to h =
+          let u = pass m (tableOf m) in
+          let e : u ≡ tableOf m = tableFrame .same-eq u (tableOf m) (and-right (consistent u) (sameTable u (tableOf m)) h) in
+          whole tableFrame rs (tableOf m) (tableOf m) (record {
+            consistent = rw e at (and-left (consistent u) (sameTable u (tableOf m)) h);
+            unchanged = run-unchanged tableFrame rs (all-reduce tableFrame rs (all-rules (m .n) (m .s) (constraintsOf m))) (tableOf m) e;
+            inside = tableFrame .w-refl (tableOf m);
+          })
+
+      from : T (isCandidate m (tableOf m)) → T (isFixpoint m)
+      from h =
+          let c = parts tableFrame rs (tableOf m) (tableOf m) h in
+          let e : pass m (tableOf m) ≡ tableOf m = run-fixed tableFrame rs (tableOf m) (c .unchanged) in
+          rw e (and-both (consistent (tableOf m)) (sameTable (tableOf m) (tableOf m)) (c .consistent) (tableFrame .same-refl (tableOf m)))
+
+module _ (m : Model) (h : T (isFixpoint m)) where
+  own : Candidate tableFrame (rs m) (tableOf m) (tableOf m)
+  unfolding isCandidate consistent unchanged sameTable within
+  own = parts tableFrame (rs m) (tableOf m) (tableOf m) (rw (fixpoint-candidate m) at h)
+
+  abbrev Still : (List Group → List Group) → Type 0
+  Still r = r (tableOf m) ≡ tableOf m
+
+  pub group-still : (g : ℕ) → 1 ≤ g → g ≤ length (tableOf m) → Calm (groupAt (tableOf m) g)
+  unfolding groupAt
+  group-still g a b =
+      calm (groupAt (tableOf m) g) (every-getD groupConsistent (tableOf m) zeroGroup (g - 1) (own .consistent) (omega arith))
+      (same-place (g - 1) groupRule (tableOf m) zeroGroup (omega arith) (unfold groupRuleAt in at))
+    where
+      short : length (tableOf m) ≤ m .s
+      short = unfold tableOf in omega (arith, length-take (m .s) (m .groups))
+
+      at : groupRuleAt g (tableOf m) ≡ tableOf m
+      at = all-range (λ g. Still (groupRuleAt g)) 1 (m .s)
+          (map-all Still groupRuleAt (range 1 (m .s))
+          (all-left Still (map groupRuleAt (range 1 (m .s))) (map (constraintRule (m .n)) (constraintsOf m)) (unfold rules in own .unchanged))) g a
+          (omega (arith, short))
+
+  -- no literal of a constraint's clauses is left to be made true
+  pub clauses-still : All (λ c. All (λ ls. Unchanged tableFrame (clauseRules (m .n) [] ls) (tableOf m)) (clausesOf c)) (constraintsOf m)
+  clauses-still =
+      each-constraint (constraintsOf m)
+      (map-all Still (constraintRule (m .n)) (constraintsOf m)
+      (all-right Still (map groupRuleAt (range 1 (m .s))) (map (constraintRule (m .n)) (constraintsOf m)) (unfold rules in own .unchanged)))
+    where
+      each-clause : (cs : List (List Literal)) → All (λ ls. Still (clauseRule (m .n) ls)) cs
+          → All (λ ls. Unchanged tableFrame (clauseRules (m .n) [] ls) (tableOf m)) cs
+      each-clause [] k = tt
+      each-clause (ls ∷ cs) k = (
+        run-unchanged tableFrame (clauseRules (m .n) [] ls) (all-reduce tableFrame (clauseRules (m .n) [] ls) (clause-rules (m .n) [] ls)) (tableOf m)
+            (unfold clauseRule in k .0),
+        each-clause cs (k .1),
+      )
+
+      each-constraint : (cs : List Constraint) → All (λ c. Still (constraintRule (m .n) c)) cs
+          → All (λ c. All (λ ls. Unchanged tableFrame (clauseRules (m .n) [] ls) (tableOf m)) (clausesOf c)) cs
+      each-constraint [] k = tt
+      each-constraint (c ∷ cs) k =
+          let fs = map (clauseRule (m .n)) (clausesOf c) in
+          let all : All (Rule tableFrame) fs = all-map (Rule tableFrame) (clauseRule (m .n)) (clausesOf c)
+          (all-of (λ ls. Rule tableFrame (clauseRule (m .n) ls)) (clause-rule (m .n)) (clausesOf c)) in (
+            each-clause (clausesOf c)
+                (map-all Still (clauseRule (m .n)) (clausesOf c)
+                (run-unchanged tableFrame fs (all-reduce tableFrame fs all) (tableOf m) (unfold constraintRule in k .0))),
+            each-constraint cs (k .1),
+          )
