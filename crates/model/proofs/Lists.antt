@@ -1,12 +1,12 @@
 -- Laws of the definitions' lists: tests, ranges, sums, places. Assumes nothing.
 use mathlib.Core.Path.{_≡_, refl, sym, ap, ap₂, _∙_, subst}
 use mathlib.Core.Logic.{_↔_}
-use Prim.Native.Nat.{ℕ, zero, suc, _+_, _≤_, _<_}
-use native.Mathlib.Nat.{add-zero, add-suc, add-assoc}
+use Prim.Native.Nat.{ℕ, zero, suc, _+_, _≤_, _<_, suc-le-suc}
+use native.Mathlib.Nat.{add-zero, zero-add, add-suc, suc-add, suc-inj, add-assoc, le-of-suc-le-suc}
 use native.Mathlib.Omega.{arith}
 use native.Mathlib.Decide.{decLt, ℕ-discrete}
 use mathlib.Core.Bool.{Bool, true, false, not, _&&_, _||_}
-use mathlib.Core.List.{List, [], _∷_, _++_, map, append-assoc}
+use mathlib.Core.List.{List, [], _∷_, _++_, map, append-assoc, head-eq-of-cons-eq, tail-eq-of-cons-eq}
 use lib.Dec.{T}
 use lib.ListN.{length, getD, set, take, drop, length-append, length-take}
 use Rattle.model.specs.Lists.{every, any, each, total, range, onPlace}
@@ -133,3 +133,59 @@ pub place-append : {A : Type 0} (i : ℕ) (r : A → A) (t u : List A) → i < l
 place-append i r [] u h = absurd (omega arith)
 place-append zero r (x ∷ xs) u h = refl
 place-append (suc i) r (x ∷ xs) u h = ap {B = List _} (λ l. x ∷ l) (place-append i r xs u (omega arith))
+
+-- ---- tests of what is made of each element
+
+pub any-map : {A B : Type 0} (p : B → Bool) (f : A → B) (xs : List A) → any p (map f xs) ≡ any (λ x. p (f x)) xs
+any-map p f [] = refl
+any-map p f (x ∷ xs) = ap (λ b. p (f x) || b) (any-map p f xs)
+
+pub every-map : {A B : Type 0} (p : B → Bool) (f : A → B) (xs : List A) → every p (map f xs) ≡ every (λ x. p (f x)) xs
+every-map p f [] = refl
+every-map p f (x ∷ xs) = ap (λ b. p (f x) && b) (every-map p f xs)
+
+pub every-ext : {A : Type 0} (p q : A → Bool) → ((x : A) → p x ≡ q x) → (xs : List A) → every p xs ≡ every q xs
+every-ext p q e [] = refl
+every-ext p q e (x ∷ xs) = ap₂ (λ (a b : Bool). a && b) (e x) (every-ext p q e xs)
+
+pub any-ext : {A : Type 0} (p q : A → Bool) → ((x : A) → p x ≡ q x) → (xs : List A) → any p xs ≡ any q xs
+any-ext p q e [] = refl
+any-ext p q e (x ∷ xs) = ap₂ (λ (a b : Bool). a || b) (e x) (any-ext p q e xs)
+
+-- ---- the values of a function along a range
+
+module _ {A : Type 0} where
+  pub values-get : (f g : ℕ → A) (i j n : ℕ) → map f (range i n) ≡ map g (range j n) → (k : ℕ) → k < n → f (i + k) ≡ g (j + k)
+  values-get f g i j zero e k h = absurd (omega arith)
+  values-get f g i j (suc n) e zero h = rw (add-zero i, add-zero j) (head-eq-of-cons-eq e)
+  values-get f g i j (suc n) e (suc k) h =
+      rw (add-suc i k, ← suc-add i k, add-suc j k, ← suc-add j k)
+      (values-get f g (suc i) (suc j) n (tail-eq-of-cons-eq e) k (le-of-suc-le-suc h))
+
+  pub values-make : (f g : ℕ → A) (i j n : ℕ) → ((k : ℕ) → k < n → f (i + k) ≡ g (j + k)) → map f (range i n) ≡ map g (range j n)
+  values-make f g i j zero h = refl
+  values-make f g i j (suc n) h =
+      ap₂ (λ (x : A) (xs : List A). x ∷ xs) (rw (add-zero i, add-zero j) at (h zero (omega arith)))
+      (values-make f g (suc i) (suc j) n
+      (λ k l. rw (add-suc i k, ← suc-add i k, add-suc j k, ← suc-add j k) at (h (suc k) (suc-le-suc l))))
+
+  pub values-append : (f : ℕ → A) (i m n : ℕ) → map f (range i (m + n)) ≡ map f (range i m) ++ map f (range (i + m) n)
+  values-append f i zero n = rw (zero-add n, add-zero i)
+  values-append f i (suc m) n = rw (suc-add m n, values-append f (suc i) m n, suc-add i m, add-suc i m)
+
+  pub values-length : (f : ℕ → A) (i n : ℕ) → length (map f (range i n)) ≡ n
+  values-length f i zero = refl
+  values-length f i (suc n) = ap suc (values-length f (suc i) n)
+
+  -- two joined pairs are equal, the first parts of one length, exactly when the parts are
+  pub append-iff : (a b c d : List A) → length a ≡ length c → (a ++ b ≡ c ++ d) ↔ ((a ≡ c) × (b ≡ d))
+  append-iff [] b [] d e = (λ h. (refl, h), λ h. h .1)
+  append-iff [] b (y ∷ c) d e = absurd (omega arith)
+  append-iff (x ∷ a) b [] d e = absurd (omega arith)
+  append-iff (x ∷ a) b (y ∷ c) d e =
+      let r = append-iff a b c d (suc-inj e) in
+      (
+        λ h. let s = r .0 (tail-eq-of-cons-eq h) in
+        (ap₂ (λ (u : A) (us : List A). u ∷ us) (head-eq-of-cons-eq h) (s .0), s .1),
+        λ h. ap₂ (λ (u v : List A). u ++ v) (h .0) (h .1),
+      )
