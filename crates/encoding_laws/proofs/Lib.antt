@@ -1,2 +1,4 @@
 pub mod Truth
 pub mod Node
+pub mod Tree
+pub mod Totalizer
