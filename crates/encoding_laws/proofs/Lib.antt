@@ -1,4 +1,6 @@
+pub mod Sized
 pub mod Truth
 pub mod Node
 pub mod Tree
 pub mod Totalizer
+pub mod Counts

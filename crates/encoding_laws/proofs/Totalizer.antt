@@ -72,16 +72,16 @@ module _ (a : List Bool) (first m L U x : ℕ) (hL : L ≤ m) (hU : U ≤ m) (hx
 
 -- ---- the tree of a size
 
-shapeIn-step : (f m : ℕ) → 2 ≤ m → shapeIn (suc f) m ≡ node (shapeIn f (m / 2)) (shapeIn f (m - m / 2))
+pub shapeIn-step : (f m : ℕ) → 2 ≤ m → shapeIn (suc f) m ≡ node (shapeIn f (m / 2)) (shapeIn f (m - m / 2))
 unfolding shapeIn
 shapeIn-step f m h = rw (T-false (leb m 1) (lt→nleb m 1 h))
 
-shapeIn-one : (f m : ℕ) → m ≤ 1 → shapeIn f m ≡ leaf
+pub shapeIn-one : (f m : ℕ) → m ≤ 1 → shapeIn f m ≡ leaf
 unfolding shapeIn
 shapeIn-one zero m h = refl
 shapeIn-one (suc f) m h = rw (T-true (leb m 1) (le→leb m 1 h))
 
-leaves-shapeIn : (f m : ℕ) → 1 ≤ m → m ≤ f → leaves (shapeIn f m) ≡ m
+pub leaves-shapeIn : (f m : ℕ) → 1 ≤ m → m ≤ f → leaves (shapeIn f m) ≡ m
 leaves-shapeIn zero m h k = absurd (omega arith)
 leaves-shapeIn (suc f) m h k = go (leaves-shapeIn f (m / 2)) (leaves-shapeIn f (m - m / 2)) (decLe 2 m)
   where

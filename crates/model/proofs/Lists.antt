@@ -1,7 +1,7 @@
 -- Laws of the definitions' lists: tests, ranges, sums, places. Assumes nothing.
 use mathlib.Core.Path.{_≡_, refl, sym, ap, ap₂, _∙_, subst}
 use mathlib.Core.Logic.{_↔_}
-use Prim.Native.Nat.{ℕ, zero, suc, _+_, _≤_, _<_, suc-le-suc}
+use Prim.Native.Nat.{ℕ, zero, suc, _+_, _-_, _*_, _≤_, _<_, suc-le-suc}
 use native.Mathlib.Nat.{add-zero, zero-add, add-suc, suc-add, suc-inj, add-assoc, le-of-suc-le-suc}
 use native.Mathlib.Omega.{arith}
 use native.Mathlib.Decide.{decLt, ℕ-discrete}
@@ -189,3 +189,52 @@ module _ {A : Type 0} where
         (ap₂ (λ (u : A) (us : List A). u ∷ us) (head-eq-of-cons-eq h) (s .0), s .1),
         λ h. ap₂ (λ (u v : List A). u ++ v) (h .0) (h .1),
       )
+
+-- ---- sums along a range
+
+pub total-ext : {A : Type 0} (f g : A → ℕ) → ((x : A) → f x ≡ g x) → (xs : List A) → total f xs ≡ total g xs
+total-ext f g h [] = refl
+total-ext f g h (x ∷ xs) = ap₂ (λ (a b : ℕ). a + b) (h x) (total-ext f g h xs)
+
+pub total-map : {A B : Type 0} (f : B → ℕ) (g : A → B) (xs : List A) → total f (map g xs) ≡ total (λ x. f (g x)) xs
+total-map f g [] = refl
+total-map f g (x ∷ xs) = ap (λ (n : ℕ). f (g x) + n) (total-map f g xs)
+
+pub total-add : {A : Type 0} (f g : A → ℕ) (xs : List A) → total (λ x. f x + g x) xs ≡ total f xs + total g xs
+total-add f g [] = refl
+total-add f g (x ∷ xs) = omega (arith, total-add f g xs)
+
+pub total-const : (f : ℕ → ℕ) (c i n : ℕ) → ((j : ℕ) → i ≤ j → j < i + n → f j ≡ c) → total f (range i n) ≡ n * c
+total-const f c i zero h = omega arith
+total-const f c i (suc n) h =
+    let e = h i (omega arith) (omega arith) in
+    let r = total-const f c (suc i) n (λ j l k. h j (omega arith) (omega arith)) in
+    omega arith
+
+pub total-but-one : (f : ℕ → ℕ) (c k i n : ℕ) → i ≤ k → k < i + n → suc (f k) ≡ c
+  → ((j : ℕ) → i ≤ j → j < i + n → (j ≡ k → ⊥) → f j ≡ c) → suc (total f (range i n)) ≡ n * c
+total-but-one f c k i zero a b e h = absurd (omega arith)
+total-but-one f c k i (suc n) a b e h =
+    go (λ (l : suc i ≤ k). total-but-one f c k (suc i) n l (omega arith) e (λ j l′ k′ d. h j (omega arith) (omega arith) d)) (decLt i k)
+  where
+    go : (suc i ≤ k → suc (total f (range (suc i) n)) ≡ n * c) → Dec (i < k) → suc (total f (range i (suc n))) ≡ suc n * c
+    go rest (yes l) = let e′ = h i (omega arith) (omega arith) (omega arith) in let r = rest l in omega arith
+    go rest (no l) =
+        let ik : i ≡ k = omega arith in
+        let e′ : suc (f i) ≡ c = rw ik e in
+        let r = total-const f c (suc i) n (λ j l k. h j (omega arith) (omega arith) (omega arith)) in
+        omega arith
+
+-- ---- a list's elements in order
+
+-- the elements, by their numbers from k on
+pub places : {A : Type 0} (k : ℕ) (xs : List A) (d : A) → map (λ i. getD xs (i - k) d) (range k (length xs)) ≡ xs
+places k xs d =
+    values-make (λ i. getD xs (i - k) d) (λ i. getD xs i d) k 0 (length xs) (λ j h. ap (λ (n : ℕ). getD xs n d) (omega arith))
+    ∙ from-first xs
+  where
+    from-first : (xs : List _) → map (λ i. getD xs i d) (range 0 (length xs)) ≡ xs
+    from-first [] = refl
+    from-first (x ∷ xs) =
+        ap {B = List _} (λ l. x ∷ l)
+        (values-make (λ i. getD (x ∷ xs) i d) (λ i. getD xs i d) 1 0 (length xs) (λ j h. rw (suc-add 0 j, zero-add j)) ∙ from-first xs)
