@@ -4,3 +4,4 @@ pub mod Node
 pub mod Tree
 pub mod Totalizer
 pub mod Counts
+pub mod Groups

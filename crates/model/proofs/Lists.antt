@@ -238,3 +238,12 @@ places k xs d =
     from-first (x ∷ xs) =
         ap {B = List _} (λ l. x ∷ l)
         (values-make (λ i. getD (x ∷ xs) i d) (λ i. getD xs i d) 1 0 (length xs) (λ j h. rw (suc-add 0 j, zero-add j)) ∙ from-first xs)
+
+pub each-map : {A B C : Type 0} (f : B → List C) (g : A → B) (xs : List A) → each f (map g xs) ≡ each (λ x. f (g x)) xs
+each-map f g [] = refl
+each-map f g (x ∷ xs) = ap (λ l. f (g x) ++ l) (each-map f g xs)
+
+pub each-range-ext : {B : Type 0} (f g : ℕ → List B) (i n : ℕ) → ((j : ℕ) → i ≤ j → j < i + n → f j ≡ g j) → each f (range i n) ≡ each g (range i n)
+each-range-ext f g i zero h = refl
+each-range-ext {B} f g i (suc n) h =
+    ap₂ (λ (a b : List B). a ++ b) (h i (omega arith) (omega arith)) (each-range-ext f g (suc i) n (λ j l k. h j (omega arith) (omega arith)))
