@@ -5,3 +5,6 @@ pub mod Tree
 pub mod Totalizer
 pub mod Counts
 pub mod Groups
+pub mod Fixpoint
+pub mod Members
+pub mod Nonempty

@@ -247,3 +247,73 @@ pub each-range-ext : {B : Type 0} (f g : ℕ → List B) (i n : ℕ) → ((j : �
 each-range-ext f g i zero h = refl
 each-range-ext {B} f g i (suc n) h =
     ap₂ (λ (a b : List B). a ++ b) (h i (omega arith) (omega arith)) (each-range-ext f g (suc i) n (λ j l k. h j (omega arith) (omega arith)))
+
+-- ---- a fact of every element
+
+abbrev pub All : {A : Type 0} → (A → Type 0) → List A → Type 0
+All P [] = Unit {0}
+All P (x ∷ xs) = P x × All P xs
+
+module _ {A : Type 0} where
+  pub all-append : (P : A → Type 0) (xs ys : List A) → All P (xs ++ ys) ↔ (All P xs × All P ys)
+  all-append P [] ys = (λ h. (tt, h), λ h. h .1)
+  all-append P (x ∷ xs) ys =
+      (
+        λ h. let r = all-append P xs ys .0 (h .1) in ((h .0, r .0), r .1),
+        λ h. (h .0 .0, all-append P xs ys .1 (h .0 .1, h .1)),
+      )
+
+  pub all-imp : (P Q : A → Type 0) → ((x : A) → P x → Q x) → (xs : List A) → All P xs → All Q xs
+  all-imp P Q f [] h = tt
+  all-imp P Q f (x ∷ xs) h = (f x (h .0), all-imp P Q f xs (h .1))
+
+  pub all-zip : (P Q : A → Type 0) (xs : List A) → All P xs → All Q xs → All (λ x. P x × Q x) xs
+  all-zip P Q [] h k = tt
+  all-zip P Q (x ∷ xs) h k = ((h .0, k .0), all-zip P Q xs (h .1) (k .1))
+
+  pub all-make : (P : A → Type 0) → ((x : A) → P x) → (xs : List A) → All P xs
+  all-make P f [] = tt
+  all-make P f (x ∷ xs) = (f x, all-make P f xs)
+
+  pub every-all : (p : A → Bool) (xs : List A) → T (every p xs) → All (λ x. T (p x)) xs
+  every-all p [] t = tt
+  every-all p (x ∷ xs) t = (and-left (p x) (every p xs) t, every-all p xs (and-right (p x) (every p xs) t))
+
+  pub all-every : (p : A → Bool) (xs : List A) → All (λ x. T (p x)) xs → T (every p xs)
+  all-every p [] h = tt
+  all-every p (x ∷ xs) h = and-both (p x) (every p xs) (h .0) (all-every p xs (h .1))
+
+  pub all-getD : (P : A → Type 0) (d : A) → P d → (xs : List A) → All P xs → (i : ℕ) → P (getD xs i d)
+  all-getD P d pd [] h i = pd
+  all-getD P d pd (x ∷ xs) h zero = h .0
+  all-getD P d pd (x ∷ xs) h (suc i) = all-getD P d pd xs (h .1) i
+
+  pub all-at : (P : A → Type 0) (d : A) (xs : List A) → All P xs → (i : ℕ) → i < length xs → P (getD xs i d)
+  all-at P d [] h i l = absurd (omega arith)
+  all-at P d (x ∷ xs) h zero l = h .0
+  all-at P d (x ∷ xs) h (suc i) l = all-at P d xs (h .1) i (omega arith)
+
+  pub all-map : {B : Type 0} (P : A → Type 0) (f : B → A) (xs : List B) → All P (map f xs) ↔ All (λ x. P (f x)) xs
+  all-map P f [] = (λ h. tt, λ h. tt)
+  all-map P f (x ∷ xs) = (λ h. (h .0, all-map P f xs .0 (h .1)), λ h. (h .0, all-map P f xs .1 (h .1)))
+
+  pub all-each : {B : Type 0} (P : A → Type 0) (f : B → List A) (xs : List B) → All (λ x. All P (f x)) xs → All P (each f xs)
+  all-each P f [] h = tt
+  all-each P f (x ∷ xs) h = all-append P (f x) (each f xs) .1 (h .0, all-each P f xs (h .1))
+
+pub all-range : (P : ℕ → Type 0) (i n : ℕ) → ((j : ℕ) → i ≤ j → j < i + n → P j) → All P (range i n)
+all-range P i zero h = tt
+all-range P i (suc n) h = (h i (omega arith) (omega arith), all-range P (suc i) n (λ j l k. h j (omega arith) (omega arith)))
+
+pub range-all : (P : ℕ → Type 0) (i n : ℕ) → All P (range i n) → (j : ℕ) → i ≤ j → j < i + n → P j
+range-all P i zero h j l k = absurd (omega arith)
+range-all P i (suc n) h j l k = go (ℕ-discrete j i) (λ l′ k′. range-all P (suc i) n (h .1) j l′ k′)
+  where
+    go : Dec (j ≡ i) → (suc i ≤ j → j < suc i + n → P j) → P j
+    go (yes e) ih = subst P (sym e) (h .0)
+    go (no f) ih = ih (omega arith) (omega arith)
+
+pub place-getD : {A : Type 0} (i : ℕ) (r : A → A) (t : List A) (d : A) → i < length t → getD (onPlace i r t) i d ≡ r (getD t i d)
+place-getD i r [] d h = absurd (omega arith)
+place-getD zero r (x ∷ xs) d h = refl
+place-getD (suc i) r (x ∷ xs) d h = place-getD i r xs d (omega arith)

@@ -245,3 +245,21 @@ size-less a b s = size-apart (less a b) b a
           bit-first z,
           ih (x / 2) (y / 2) (λ e. omega (arith, h (suc e), bit-next e x, bit-next e y, bit-next e z)),
         )) z x y
+
+-- ---- whether a bit is set
+
+pub has-bit : (w e : ℕ) → has w e ≡ eqb (bit e w) 1
+unfolding has
+has-bit w e = refl
+
+pub has-one : (w e : ℕ) → has w e ≡ true → bit e w ≡ 1
+unfolding has
+has-one w e h = eqb-true (bit e w) 1 h
+
+pub has-none : (w e : ℕ) → has w e ≡ false → bit e w ≡ 0
+unfolding has
+has-none w e h = let k = eqb-false (bit e w) 1 h in omega (arith, bit-le e w)
+
+pub one-has : (w e : ℕ) → bit e w ≡ 1 → has w e ≡ true
+unfolding has
+one-has w e h = rw h
