@@ -112,6 +112,7 @@ module _ (t : List Group) (e : ℕ) where
   -- a clause whose rule changes nothing
   clause-filled : (n : ℕ) (ls : List Literal) → All (Stable n) t → e < n → Filled ls → All (λ l. variable l - 1 < length t) ls → clauseRule n ls t ≡ t
     → All Filled (keep (map (termOf t e) ls))
+  unfolding literalRule
   clause-filled n [] s h f g k = absurd f
   clause-filled n (l ∷ after) s h f g k = kept-filled (map (termOf t e) (l ∷ after)) no-all
     where
@@ -119,7 +120,6 @@ module _ (t : List Group) (e : ℕ) where
       w = allFalse t (full n) after
 
       no-all : All (λ x. x ≡ Fails) (map (termOf t e) (l ∷ after)) → ⊥
-      unfolding literalRule
       no-all a =
           made-changes n w l s (g .0) (all-false-bit (full n) after (bit-full n e h) (all-map (λ x. x ≡ Fails) (termOf t e) after .0 (a .1))) (a .0)
           (first-keeps n l after t k)
