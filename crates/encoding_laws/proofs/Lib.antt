@@ -8,3 +8,4 @@ pub mod Groups
 pub mod Fixpoint
 pub mod Members
 pub mod Nonempty
+pub mod Meaning

@@ -1,18 +1,19 @@
 -- Laws of words as sets, over every width: bits of each operation, inclusion and its orders, the number of ones. Bits are the numbers 0 and 1, so that
 -- omega reasons about them. Assumes nothing.
-use mathlib.Core.Path.{_≡_, refl, sym, ap, _∙_, subst}
+use mathlib.Core.Path.{_≡_, refl, sym, ap, ap₂, _∙_, subst}
 use Prim.Native.Nat.{ℕ, zero, suc, _+_, _-_, _*_, _/_, _%_, _^_, _≤_, _<_, min, max}
 use native.Mathlib.Nat.{le-refl, le-trans, le-antisymm, div-add-mod', div-one, div-div-eq-div-mul, pow-zero, pow-suc, pow-succ'}
 use native.Mathlib.Omega.{arith}
 use native.Mathlib.Decide.{decLt}
-use mathlib.Core.Bool.{Bool, true, false}
+use native.Mathlib.Numerals.{add-one}
+use mathlib.Core.Bool.{Bool, true, false, cond, not, _&&_, _||_}
 use borrow.Author.Tests.{eqb-true, eqb-false}
 use lib.Dec.{T, eqb, eqb→eq, eqb-refl}
 use lib.Arith.{bin-ind, digits-div, digits-mod}
 use lib.Bits.{bitAnd, bitOr, bitXor, differ, and-step, or-step, xor-step}
 use lib.Count.{ones, ones-step, ones-le}
-use lib.Pow.{pow-pos}
-use Rattle.model.specs.Words.{full, less, sizeIn, size, inside, bit, has}
+use lib.Pow.{pow-pos, mod-pow-add}
+use Rattle.model.specs.Words.{full, less, sizeIn, size, inside, bit, has, wordWhere}
 
 -- ---- a bit
 
@@ -263,3 +264,101 @@ has-none w e h = let k = eqb-false (bit e w) 1 h in omega (arith, bit-le e w)
 pub one-has : (w e : ℕ) → bit e w ≡ 1 → has w e ≡ true
 unfolding has
 one-has w e h = rw h
+
+bools : (P : ℕ → ℕ → Type 0) → P 0 0 → P 0 1 → P 1 0 → P 1 1 → (x y : ℕ) → x ≤ 1 → y ≤ 1 → P x y
+bools P a b c d zero zero h k = a
+bools P a b c d zero (suc zero) h k = b
+bools P a b c d (suc zero) zero h k = c
+bools P a b c d (suc zero) (suc zero) h k = d
+bools P a b c d zero (suc (suc y)) h k = absurd (omega arith)
+bools P a b c d (suc zero) (suc (suc y)) h k = absurd (omega arith)
+bools P a b c d (suc (suc x)) y h k = absurd (omega arith)
+
+pub has-and : (a b e : ℕ) → has (bitAnd a b) e ≡ (has a e && has b e)
+unfolding has
+has-and a b e =
+    ap (λ (x : ℕ). eqb x 1) (bit-and e a b)
+    ∙ bools (λ x y. eqb (min x y) 1 ≡ (eqb x 1 && eqb y 1)) refl refl refl refl (bit e a) (bit e b) (bit-le e a) (bit-le e b)
+
+pub has-or : (a b e : ℕ) → has (bitOr a b) e ≡ (has a e || has b e)
+unfolding has
+has-or a b e =
+    ap (λ (x : ℕ). eqb x 1) (bit-or e a b)
+    ∙ bools (λ x y. eqb (max x y) 1 ≡ (eqb x 1 || eqb y 1)) refl refl refl refl (bit e a) (bit e b) (bit-le e a) (bit-le e b)
+
+pub has-less : (a b e : ℕ) → has (less a b) e ≡ (has a e && not (has b e))
+unfolding has
+has-less a b e =
+    ap (λ (x : ℕ). eqb x 1) (bit-less e a b)
+    ∙ bools (λ x y. eqb (x - y) 1 ≡ (eqb x 1 && not (eqb y 1))) refl refl refl refl (bit e a) (bit e b) (bit-le e a) (bit-le e b)
+
+pub has-zero : (e : ℕ) → has 0 e ≡ false
+unfolding has
+has-zero e = rw (bit-zero e)
+
+pub has-first : (w : ℕ) → has w 0 ≡ eqb (w % 2) 1
+unfolding has
+has-first w = rw (bit-first w)
+
+pub has-next : (w e : ℕ) → has w (suc e) ≡ has (w / 2) e
+unfolding has
+has-next w e = rw (bit-next e w)
+
+-- ---- the word of the bits that pass a test
+
+pub word-first : (p : ℕ → Bool) (n : ℕ) → wordWhere p (suc n) ≡ cond (p 0) 1 0 + 2 * wordWhere (λ e. p (suc e)) n
+unfolding wordWhere
+word-first p zero = go (p 0)
+  where
+    go : (b : Bool) → 0 + cond b (2 ^ 0) 0 ≡ cond b 1 0 + 2 * 0
+    go true = refl
+    go false = refl
+word-first p (suc n) = go (p (suc n)) (word-first p n)
+  where
+    shifted : (d x y z : ℕ) → wordWhere p (suc n) ≡ d + 2 * x → y ≡ 2 * z → wordWhere p (suc n) + y ≡ d + 2 * (x + z)
+    shifted d x y z h k = rw h (omega arith)
+
+    go : (b : Bool) → wordWhere p (suc n) ≡ cond (p 0) 1 0 + 2 * wordWhere (λ e. p (suc e)) n
+      → wordWhere p (suc n) + cond b (2 ^ suc n) 0 ≡ cond (p 0) 1 0 + 2 * (wordWhere (λ e. p (suc e)) n + cond b (2 ^ n) 0)
+    go true ih = shifted (cond (p 0) 1 0) (wordWhere (λ e. p (suc e)) n) (2 ^ suc n) (2 ^ n) ih (omega arith)
+    go false ih = shifted (cond (p 0) 1 0) (wordWhere (λ e. p (suc e)) n) 0 0 ih refl
+
+pub word-ext : (p q : ℕ → Bool) (n : ℕ) → ((e : ℕ) → e < n → p e ≡ q e) → wordWhere p n ≡ wordWhere q n
+unfolding wordWhere
+word-ext p q zero h = refl
+word-ext p q (suc n) h =
+    ap₂ (λ (x y : ℕ). x + y) (word-ext p q n (λ e l. h e (omega arith))) (ap (λ (b : Bool). cond b (2 ^ n) 0) (h n (omega arith)))
+
+pub has-word : (p : ℕ → Bool) (n e : ℕ) → e < n → has (wordWhere p n) e ≡ p e
+has-word p zero e h = absurd (omega arith)
+has-word p (suc n) zero h = has-first (wordWhere p (suc n)) ∙ ap (λ (x : ℕ). eqb (x % 2) 1) (word-first p n) ∙ go (p 0)
+  where
+    go : (b : Bool) → eqb ((cond b 1 0 + 2 * wordWhere (λ e. p (suc e)) n) % 2) 1 ≡ b
+    go true = let z : (1 + 2 * wordWhere (λ e. p (suc e)) n) % 2 ≡ 1 = omega arith in rw z
+    go false = let z : (0 + 2 * wordWhere (λ e. p (suc e)) n) % 2 ≡ 0 = omega arith in rw z
+has-word p (suc n) (suc e) h =
+    has-next (wordWhere p (suc n)) e
+    ∙ ap (λ (x : ℕ). has (x / 2) e) (word-first p n)
+    ∙ ap (λ (x : ℕ). has x e) (go (p 0))
+    ∙ has-word (λ e. p (suc e)) n e (omega arith)
+  where
+    go : (b : Bool) → (cond b 1 0 + 2 * wordWhere (λ e. p (suc e)) n) / 2 ≡ wordWhere (λ e. p (suc e)) n
+    go true = omega arith
+    go false = omega arith
+
+pub word-lt : (p : ℕ → Bool) (n : ℕ) → wordWhere p n < 2 ^ n
+unfolding wordWhere
+word-lt p zero = omega arith
+word-lt p (suc n) = go (p n) (word-lt p n)
+  where
+    go : (b : Bool) → wordWhere p n < 2 ^ n → wordWhere p n + cond b (2 ^ n) 0 < 2 ^ suc n
+    go true h = omega arith
+    go false h = omega arith
+
+-- ---- the ones below a bit
+
+pub size-below : (e w : ℕ) → size (w % 2 ^ suc e) ≡ w % 2 + size (w / 2 % 2 ^ e)
+size-below e w =
+    let d : w % 2 ^ suc e ≡ (w / 2 % 2 ^ e) * 2 + w % 2 = subst (λ (k : ℕ). w % 2 ^ k ≡ (w / 2 % 2 ^ e) * 2 + w % 2) (add-one e) (mod-pow-add w e 1) in
+    size-step (w % 2 ^ suc e)
+    ∙ ap₂ (λ (x y : ℕ). x + size y) (ap (λ (x : ℕ). x % 2) d ∙ omega arith) (ap (λ (x : ℕ). x / 2) d ∙ omega arith)
