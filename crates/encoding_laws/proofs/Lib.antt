@@ -9,3 +9,4 @@ pub mod Fixpoint
 pub mod Members
 pub mod Nonempty
 pub mod Meaning
+pub mod Row
