@@ -10,3 +10,4 @@ pub mod Members
 pub mod Nonempty
 pub mod Meaning
 pub mod Row
+pub mod Whole

@@ -6,7 +6,7 @@ use mathlib.Core.List.{List, [], _∷_, _++_, map}
 use Prim.Native.Nat.{ℕ, zero, suc, _+_, _-_, _≤_, _<_}
 use native.Mathlib.Omega.{arith}
 use lib.Dec.{T, leb, eqb, leb→le}
-use lib.ListN.{length, getD, take}
+use lib.ListN.{length, getD, take, length-take}
 use lib.Seq.{getD-take}
 use Rattle.model.specs.declared.Literal.{Literal}
 use Rattle.model.specs.declared.Literal.the-variants.{Pos, Neg}
@@ -16,7 +16,7 @@ use Rattle.model.specs.Limits.{limits}
 use Rattle.model.specs.Clauses.{memberCount, shortClauses, unionClauses, memberClauses, groupsOf}
 use Rattle.model.specs.Model.{codeInRange, constraintInRange}
 use Rattle.model.specs.Assignment.{variable}
-use Rattle.model.proofs.Lists.{and-left, and-right, All, all-append, all-map, all-range, all-imp, all-getD, every-all}
+use Rattle.model.proofs.Lists.{and-left, and-right, All, all-append, all-map, all-range, all-imp, all-getD, every-all, every-getD}
 
 pub between-le : (a b x : ℕ) → T (between a b x) → (a ≤ x) × (x ≤ b)
 between-le a b x t = (leb→le a x (and-left (leb a x) (leb x b) t), leb→le x b (and-right (leb a x) (leb x b) t))
@@ -90,3 +90,27 @@ module _ (s : ℕ) (c : Constraint) (t : T (constraintInRange s c)) where
       subst (λ (g : ℕ). g ≤ s) (getD-take (memberCount (c .code) (c .count)) (c .groups) i 0 h)
       (all-getD (λ g. g ≤ s) 0 (omega arith) (groupsOf c)
       (all-imp (λ g. T (between 1 s g)) (λ g. g ≤ s) (λ g h. between-le 1 s g h .1) (groupsOf c) (every-all (between 1 s) (groupsOf c) groups-in)) i)
+
+  -- "a count k (2 to 16)" where the code is 6
+  count-in : c .code ≡ 6 → c .count ≤ 16
+  unfolding codeInRange
+  count-in e =
+      let h = and-right (between 1 6 (c .code)) (not (eqb (c .code) 6) || between 2 (limits .members - 1) (c .count)) code-in in
+      between-le 2 16 (c .count) (rw e at h) .1
+
+  pub member-count : memberCount (c .code) (c .count) ≤ limits .members
+  unfolding memberCount
+  member-count =
+      by-code (λ code. (code ≡ 6 → c .count ≤ 16) → memberCount code (c .count) ≤ 17)
+      (λ h. omega arith) (λ h. omega arith) (λ h. omega arith) (λ h. omega arith) (λ h. omega arith) (λ h. let k = h refl in omega arith)
+      (c .code) code-six count-in
+
+  -- where the list holds them all, each member is a group
+  module _ (wide : limits .members ≤ length (c .groups)) where
+    pub groups-length : length (groupsOf c) ≡ memberCount (c .code) (c .count)
+    unfolding groupsOf
+    groups-length = length-take (memberCount (c .code) (c .count)) (c .groups) ∙ omega (arith, member-count)
+
+    pub member-group : (i : ℕ) → i < memberCount (c .code) (c .count) → (1 ≤ getD (groupsOf c) i 0) × (getD (groupsOf c) i 0 ≤ s)
+    member-group i h =
+        between-le 1 s (getD (groupsOf c) i 0) (every-getD (between 1 s) (groupsOf c) 0 i groups-in (omega (arith, groups-length)))

@@ -317,3 +317,22 @@ pub place-getD : {A : Type 0} (i : ℕ) (r : A → A) (t : List A) (d : A) → i
 place-getD i r [] d h = absurd (omega arith)
 place-getD zero r (x ∷ xs) d h = refl
 place-getD (suc i) r (x ∷ xs) d h = place-getD i r xs d (omega arith)
+
+pub every-range-ext : (p q : ℕ → Bool) (i n : ℕ) → ((j : ℕ) → i ≤ j → j < i + n → p j ≡ q j) → every p (range i n) ≡ every q (range i n)
+every-range-ext p q i zero h = refl
+every-range-ext p q i (suc n) h =
+    ap₂ (λ (x y : Bool). x && y) (h i (omega arith) (omega arith)) (every-range-ext p q (suc i) n (λ j l k. h j (omega arith) (omega arith)))
+
+pub every-all-ext : {A : Type 0} (p q : A → Bool) (xs : List A) → All (λ x. p x ≡ q x) xs → every p xs ≡ every q xs
+every-all-ext p q [] h = refl
+every-all-ext p q (x ∷ xs) h = ap₂ (λ (a b : Bool). a && b) (h .0) (every-all-ext p q xs (h .1))
+
+pub getD-map-in : {A B : Type 0} (f : A → B) (xs : List A) (i : ℕ) (d : A) (e : B) → i < length xs → getD (map f xs) i e ≡ f (getD xs i d)
+getD-map-in f [] i d e h = absurd (omega arith)
+getD-map-in f (x ∷ xs) zero d e h = refl
+getD-map-in f (x ∷ xs) (suc i) d e h = getD-map-in f xs i d e (omega arith)
+
+pub range-getD : (a k i d : ℕ) → i < k → getD (range a k) i d ≡ a + i
+range-getD a zero i d h = absurd (omega arith)
+range-getD a (suc k) zero d h = sym (add-zero a)
+range-getD a (suc k) (suc i) d h = range-getD (suc a) k i d (omega arith) ∙ omega arith

@@ -1,0 +1,150 @@
+-- The satisfying assignments and the solutions match one for one. Assumes nothing.
+use mathlib.Core.Path.{_≡_, refl, sym, ap, ap₂, _∙_, subst}
+use mathlib.Core.Logic.{_↔_}
+use mathlib.Core.Bool.{Bool, true, false, not, _&&_, _||_, cond}
+use mathlib.Core.List.{List, [], _∷_, _++_, map}
+use Prim.Native.Nat.{ℕ, zero, suc, _+_, _-_, _%_, _^_, _≤_, _<_}
+use native.Mathlib.Omega.{arith}
+use native.Mathlib.Decide.{decLt}
+use lib.Dec.{T, leb, ltb, eqb, leb→le, le→leb, ltb→lt, lt→ltb, nltb→le, eqb→eq, eqb-refl}
+use lib.Arith.{le→nltb}
+use lib.Pow.{pow-pos}
+use lib.ListN.{length, getD, take, drop, length-append, length-drop, length-map, take-append-drop}
+use lib.Seq.{drop-cons, take-all, take-at, drop-at, getD-take}
+use Rattle.model.specs.declared.Literal.{Literal}
+use Rattle.model.specs.declared.Literal.the-variants.{Pos, Neg}
+use Rattle.model.specs.declared.Term.{Term}
+use Rattle.model.specs.declared.Term.the-variants.{Holds, Fails, Open}
+use Rattle.model.specs.declared.Group.{Group}
+use Rattle.model.specs.declared.Constraint.{Constraint}
+use Rattle.model.specs.declared.Model.{Model}
+use Rattle.model.specs.Lists.{every, any, pairwise, each, total, range, between}
+use Rattle.model.specs.Limits.{limits}
+use Rattle.model.specs.Words.{less, size, inside, bit, has, wordWhere}
+use Rattle.model.specs.Clauses.{memberCount, memberClauses, ofGroup, groupsOf, clausesOf}
+use Rattle.model.specs.Model.{groupAt, tableOf, constraintsOf, constraintInRange, inRange}
+use Rattle.model.specs.Propagate.{isFixpoint}
+use Rattle.model.specs.Totalizer.{oppositeTerm, keep, shape, leaves, outputs, totalizerClauses, treeOutputCount}
+use Rattle.model.specs.Cnf.{openOf, openCount, atLeast, atMost, counted, outputsOf, firstVariable, firstOutput, variableOf, variableCount, groupClauses, membership, termOf, clausesAt, constraintClauses, clauses}
+use Rattle.model.specs.Solution.{allowed, meaning, setOf, constraintTrue, isSolution}
+use Rattle.model.specs.Close.{truth, termTrue, clauseTrue, satisfying, groupBy, groupsBy}
+use Rattle.model.specs.Demand.{isAssignment, isSatisfying}
+use Rattle.model.proofs.Words.{Sub, sub-inside, inside-sub, sub-less, sub-le, size-less, bit-less, bit-le, has-one, has-none, has-less, word-ext, word-lt, has-word}
+use Rattle.model.proofs.Lists.{T-true, T-false, and-left, and-right, and-both, every-each, every-map, every-ext, any-map, any-ext, every-range-ext, every-all-ext, values-append, append-iff, All, all-imp, all-zip, all-map, all-make, all-getD, every-all, getD-map-in, range-getD, range-length}
+use Rattle.encoding_laws.proofs.Sized.{Sized, membersSized}
+use Rattle.encoding_laws.proofs.Truth.{allTrue, allTrue-append, T-and, opposite-true, kept-true}
+use Rattle.encoding_laws.proofs.Tree.{count, fill, length-fill, valuesFrom, count-le}
+use Rattle.encoding_laws.proofs.Totalizer.{totalizer-iff, leaves-shape}
+use Rattle.encoding_laws.proofs.Counts.{outputs-count}
+use Rattle.encoding_laws.proofs.Groups.{table-length, clauses-parts, overGroups, numbered}
+use Rattle.encoding_laws.proofs.Fixpoint.{Stable, InRange, in-range, table-stable}
+use Rattle.encoding_laws.proofs.Members.{code-six, groups-length, member-group}
+use Rattle.encoding_laws.proofs.Meaning.{memberTrue, meaningAt, clauses-meaning, meaning-ext, meaning-words}
+use Rattle.encoding_laws.proofs.Row.{inRow, rowWord, openValues, Apart, Holding, row-size, row-values, row-of}
+
+-- ---- one group
+
+pub record Limits (r : Group) : Type 0 where
+  pub low-open : atLeast r ≤ openCount r
+  pub high-open : atMost r ≤ openCount r
+  pub low-high : atLeast r ≤ atMost r
+  pub low-is : atLeast r + size (r .fixed) ≡ r .low
+  pub high-is : atMost r + size (r .fixed) ≡ r .high
+
+pub limits-of : (n : ℕ) (r : Group) → Stable n r → Limits r
+unfolding atLeast atMost openCount openOf
+limits-of n r s =
+    let e = size-less (r .possible) (r .fixed) (s .sub) in
+    record { low-open = omega (arith, s .low-fixed, s .order, s .high-possible); high-open = omega (arith, s .low-fixed, s .order, s .high-possible); low-high = omega (arith, s .order); low-is = omega (arith, s .low-fixed); high-is = omega (arith, s .low-fixed, s .order) }
+
+pub counted-pos : (L U m : ℕ) → L ≤ m → T (ltb 0 L || ltb U m) → 1 ≤ m
+counted-pos L U m h t = go (decLt 0 L)
+  where
+    go : Dec (0 < L) → 1 ≤ m
+    go (yes l) = omega arith
+    go (no l) = let k = ltb→lt U m (rw (T-false (ltb 0 L) (le→nltb 0 L (omega arith))) at t) in omega arith
+
+uncounted : (L U m : ℕ) → T (not (ltb 0 L || ltb U m)) → (L ≤ 0) × (m ≤ U)
+uncounted L U m t = go (decLt 0 L)
+  where
+    go : Dec (0 < L) → (L ≤ 0) × (m ≤ U)
+    go (yes l) = absurd (rw (T-true (ltb 0 L) (lt→ltb 0 L l)) at t)
+    go (no l) = (omega arith, nltb→le U m (rw (T-false (ltb 0 L) (le→nltb 0 L (omega arith))) at t))
+
+open-apart : (n : ℕ) (r : Group) → Stable n r → Apart (r .fixed) (openOf r)
+unfolding openOf
+open-apart n r s = record { bits = λ e. omega (arith, bit-less e (r .possible) (r .fixed), s .sub .at e, bit-le e (r .possible)) }
+
+open-lt : (n : ℕ) (r : Group) → Stable n r → openOf r < 2 ^ n
+unfolding openOf
+open-lt n r s = let h = sub-le (sub-less (r .possible) (r .fixed)) in omega (arith, s .bound)
+
+fixed-lt : (n : ℕ) (r : Group) → Stable n r → r .fixed < 2 ^ n
+fixed-lt n r s = let h = sub-le (s .sub) in omega (arith, s .bound)
+
+-- the values of a group's outputs
+unfoldable fillOf : Group → List Bool → List Bool
+fillOf r xs = cond (counted r) (fill (shape (openCount r)) xs) []
+
+length-fillOf : (r : Group) (xs : List Bool) → length (fillOf r xs) ≡ outputsOf r
+unfolding fillOf outputsOf
+length-fillOf r xs = go (counted r)
+  where
+    go : (b : Bool) → length (cond b (fill (shape (openCount r)) xs) []) ≡ cond b (treeOutputCount (openCount r)) 0
+    go true = length-fill (shape (openCount r)) xs ∙ outputs-count (openCount r)
+    go false = refl
+
+-- a group's clauses, and its word
+unfoldable clausesFrom : Group → ℕ → ℕ → List (List Literal)
+clausesFrom r v o = cond (counted r) (totalizerClauses (openCount r) v o (atLeast r) (atMost r)) []
+
+unfoldable wordFrom : ℕ → List Bool → Group → ℕ → ℕ → ℕ
+wordFrom n a r v o = rowWord (truth a) n (r .fixed) (openOf r) v
+
+module _ (n : ℕ) (a : List Bool) (r : Group) (v o : ℕ) (s : Stable n r) where
+  word-size : size (wordFrom n a r v o) ≡ size (r .fixed) + count (valuesFrom a v (openCount r))
+  unfolding wordFrom openCount
+  word-size = row-size (truth a) n (r .fixed) (openOf r) v (fixed-lt n r s) (open-lt n r s) (open-apart n r s)
+
+  bit-in : (e : ℕ) (b : Bool) → bit e (r .fixed) ≤ bit e (r .possible)
+  bit-in e b = s .sub .at e
+
+  InLimits : Type 0
+  InLimits = (r .low ≤ size (wordFrom n a r v o)) × (size (wordFrom n a r v o) ≤ r .high)
+
+  group-iff : T (allTrue a (clausesFrom r v o)) ↔ ((valuesFrom a o (outputsOf r) ≡ fillOf r (valuesFrom a v (openCount r))) × InLimits)
+  unfolding clausesFrom outputsOf fillOf counted InLimits
+  group-iff = go (counted r) refl
+    where
+      m : ℕ
+      m = openCount r
+
+      x : ℕ
+      x = count (valuesFrom a v m)
+
+      l : Limits r
+      l = limits-of n r s
+
+      hx : x ≤ m
+      hx = rw (Rattle.model.proofs.Lists.values-length (truth a) v m) at (count-le (valuesFrom a v m))
+
+      go : (b : Bool) → counted r ≡ b
+        → T (allTrue a (cond b (totalizerClauses m v o (atLeast r) (atMost r)) []))
+        ↔ ((valuesFrom a o (cond b (treeOutputCount m) 0) ≡ cond b (fill (shape m) (valuesFrom a v m)) []) × InLimits)
+      go true c =
+          let h1 : 1 ≤ m = counted-pos (atLeast r) (atMost r) m (l .low-open) (subst T (sym c) tt) in
+          let w = totalizer-iff a m v o (atLeast r) (atMost r) h1 (l .low-open) (l .high-open) in
+          (
+            λ t. let q = w .0 t in
+            let q0 = q .1 .0 in
+            let q1 = q .1 .1 in
+            (rw (outputs-count m, leaves-shape m h1) at (q .0), (omega (arith, word-size, l .low-is), omega (arith, word-size, l .high-is))),
+            λ h. let h0 = h .1 .0 in
+            let h1′ = h .1 .1 in
+            w .1 (rw (outputs-count m, leaves-shape m h1) (h .0), (omega (arith, word-size, l .low-is), omega (arith, word-size, l .high-is))),
+          )
+      go false c =
+          let w = uncounted (atLeast r) (atMost r) m (subst (λ b. T (not b)) (sym c) tt) in
+          let w0 = w .0 in
+          let w1 = w .1 in
+          (λ t. (refl, (omega (arith, word-size, l .low-is), omega (arith, word-size, l .high-is, hx))), λ h. tt)
