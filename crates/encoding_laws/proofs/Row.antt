@@ -5,11 +5,12 @@ use mathlib.Core.List.{List, [], _∷_, _++_, map, head-eq-of-cons-eq, tail-eq-o
 use Prim.Native.Nat.{ℕ, zero, suc, _+_, _*_, _-_, _/_, _%_, _^_, _≤_, _<_}
 use native.Mathlib.Nat.{add-zero, zero-add, add-assoc}
 use native.Mathlib.Omega.{arith}
+use native.Mathlib.Decide.{decLt}
 use lib.Dec.{T, eqb}
 use lib.ListN.{length}
 use Rattle.model.specs.Lists.{range}
 use Rattle.model.specs.Words.{size, bit, has, wordWhere}
-use Rattle.model.proofs.Words.{bit-first, bit-next, bit-le, bit-zero, bit-ext, has-first, has-next, word-first, word-ext, size-step, size-zero, size-below}
+use Rattle.model.proofs.Words.{bit-first, bit-next, bit-le, bit-past, has-first, has-next, has-one, has-none, has-word, word-first, word-ext, word-lt, size-step, size-zero, size-below}
 use Rattle.model.proofs.Lists.{values-append}
 use Rattle.encoding_laws.proofs.Tree.{count, count-append}
 
@@ -164,6 +165,35 @@ module _ (α : ℕ → Bool) where
       open-case zero rest l p k = rw (head-eq-of-cons-eq k) (omega (arith, rest (v + 1) (tail-eq-of-cons-eq k)))
       open-case (suc zero) rest l p k = rw (head-eq-of-cons-eq k) (omega (arith, rest (v + 1) (tail-eq-of-cons-eq k)))
       open-case (suc (suc b)) rest l p k = absurd (omega arith)
+
+  -- the word holds the fixed entrants and otherwise open ones only
+  pub row-holding : (n f o v : ℕ) → f < 2 ^ n → Holding f o (rowWord α n f o v)
+  unfolding rowWord
+  row-holding n f o v hf = record { low = λ e. fst e (decLt e n); high = λ e. snd e (decLt e n) }
+    where
+      w : ℕ
+      w = wordWhere (inRow α f o v) n
+
+      fst : (e : ℕ) → Dec (e < n) → bit e f ≤ bit e w
+      fst e (yes l) = go (has f e) refl
+        where
+          go : (b : Bool) → has f e ≡ b → bit e f ≤ bit e w
+          go true p = omega (arith, one-has-bit, bit-le e f)
+            where
+              one-has-bit : bit e w ≡ 1
+              one-has-bit = has-one w e (has-word (inRow α f o v) n e l ∙ ap (λ (x : Bool). x || (has o e && α (v + size (o % 2 ^ e)))) p)
+          go false p = omega (arith, has-none f e p)
+      fst e (no l) = omega (arith, bit-past n e f hf (omega arith))
+
+      snd : (e : ℕ) → Dec (e < n) → bit e w ≤ bit e f + bit e o
+      snd e (yes l) = go (has f e) refl (has o e) refl
+        where
+          go : (b : Bool) → has f e ≡ b → (c : Bool) → has o e ≡ c → bit e w ≤ bit e f + bit e o
+          go true p c q = omega (arith, has-one f e p, bit-le e w)
+          go false p true q = omega (arith, has-one o e q, bit-le e w)
+          go false p false q =
+              omega (arith, has-none w e (has-word (inRow α f o v) n e l ∙ ap₂ (λ (x y : Bool). x || (y && α (v + size (o % 2 ^ e)))) p q))
+      snd e (no l) = omega (arith, bit-past n e w (word-lt (inRow α f o v) n) (omega arith))
 
 pub values-length : (n o w : ℕ) → o < 2 ^ n → length (openValues n o w) ≡ size o
 values-length zero o w h = let q : o ≡ 0 = omega arith in rw (q, size-zero)
