@@ -269,3 +269,232 @@ module _ (n : ℕ) (a : List Bool) where
         let q = w .0 (h .1) in
         c .1 (g .1 (p .0, l .0 (q .0)), b .1 (p .1, q .1)),
       )
+
+-- ---- constraints
+
+module _ (m : Model) (a : List Bool) where
+  -- bit e of the set of a group is its term's truth
+  group-has : (g e : ℕ) → 1 ≤ g → g ≤ m .s → e < m .n → has (setOf (groupsBy m a) g) e ≡ termTrue a (membership (tableOf m) e g)
+  unfolding setOf groupsBy groupBy
+  group-has g e h k l =
+      ap (λ (w : ℕ). has w e)
+      (getD-map-in (groupBy m a) (range 1 (m .s)) (g - 1) 0 0 (omega (arith, range-length 1 (m .s)))
+      ∙ ap (groupBy m a) (range-getD 1 (m .s) (g - 1) 0 (omega arith) ∙ omega arith))
+      ∙ has-word (λ e. termTrue a (membership (tableOf m) e g)) (m .n) e l
+
+  sets-small : All (λ w. w < 2 ^ m .n) (groupsBy m a)
+  unfolding groupsBy groupBy
+  sets-small =
+      all-map (λ w. w < 2 ^ m .n) (groupBy m a) (range 1 (m .s)) .1
+      (all-make (λ g. groupBy m a g < 2 ^ m .n) (λ g. word-lt (λ e. termTrue a (membership (tableOf m) e g)) (m .n)) (range 1 (m .s)))
+
+  -- a constraint's clauses for one entrant
+  entrant-true : (c : Constraint) (e : ℕ) → T (between 1 6 (c .code))
+    → allTrue a (clausesAt (tableOf m) c e) ≡ meaningAt (c .code) (c .count) (λ i. termTrue a (membership (tableOf m) e (getD (c .groups) i 0)))
+  unfolding clausesAt clausesOf
+  entrant-true c e t =
+      let cs = memberClauses (c .code) (c .count) in
+      kept-true a (termOf (tableOf m) e) (clausesOf c)
+      ∙ every-map (λ ls. any (λ l. termTrue a (termOf (tableOf m) e l)) ls) (map (ofGroup (c .groups))) cs
+      ∙ every-ext (λ ls. any (λ l. termTrue a (termOf (tableOf m) e l)) (map (ofGroup (c .groups)) ls)) (any (memberTrue b))
+      (λ ls. any-map (λ l. termTrue a (termOf (tableOf m) e l)) (ofGroup (c .groups)) ls
+      ∙ any-ext (λ l. termTrue a (termOf (tableOf m) e (ofGroup (c .groups) l))) (memberTrue b) one ls) cs
+      ∙ clauses-meaning b (c .code) (c .count) t
+    where
+      b : ℕ → Bool
+      b i = termTrue a (membership (tableOf m) e (getD (c .groups) i 0))
+
+      one : (l : Literal) → termTrue a (termOf (tableOf m) e (ofGroup (c .groups) l)) ≡ memberTrue b l
+      one (Pos i) = unfold termOf ofGroup in refl
+      one (Neg i) = unfold termOf ofGroup in opposite-true a (membership (tableOf m) e (getD (c .groups) i 0))
+
+  constraint-true : (c : Constraint) → T (constraintInRange (m .s) c) → limits .members ≤ length (c .groups)
+    → allTrue a (constraintClauses (m .n) (tableOf m) c) ≡ constraintTrue (groupsBy m a) c
+  unfolding constraintClauses constraintTrue groupsOf
+  constraint-true c t wide =
+      every-each (clauseTrue a) (clausesAt (tableOf m) c) (range 0 (m .n))
+      ∙ every-range-ext (λ e. allTrue a (clausesAt (tableOf m) c e)) (λ e. meaningAt (c .code) (c .count) (λ i. has (getD ws i 0) e)) 0 (m .n)
+      (λ e _ h. entrant-true c e (code-six (m .s) c t)
+      ∙ meaning-ext (c .code) (c .count) (λ i. termTrue a (membership (tableOf m) e (getD (c .groups) i 0))) (λ i. has (getD ws i 0) e) (code-six (m .s) c t)
+      (λ i l. let g = member-group (m .s) c t wide i l in
+      sym (ap (λ (w : ℕ). has w e) (getD-map-in (setOf (groupsBy m a)) (groupsOf c) i 0 0 (omega (arith, groups-length (m .s) c t wide)))
+      ∙ group-has (getD (groupsOf c) i 0) e (g .0) (g .1) (omega arith)
+      ∙ ap (λ (g : ℕ). termTrue a (membership (tableOf m) e g)) (getD-take (memberCount (c .code) (c .count)) (c .groups) i 0 l))))
+      ∙ sym (meaning-words (m .n) ws small (pow-pos (m .n)) (c .code) (c .count) (code-six (m .s) c t) length-six)
+    where
+      ws : List ℕ
+      ws = map (setOf (groupsBy m a)) (groupsOf c)
+
+      small : All (λ w. w < 2 ^ m .n) ws
+      small =
+          all-map (λ w. w < 2 ^ m .n) (setOf (groupsBy m a)) (groupsOf c) .1
+          (all-make (λ g. setOf (groupsBy m a) g < 2 ^ m .n)
+          (λ g. unfold setOf in all-getD (λ w. w < 2 ^ m .n) 0 (pow-pos (m .n)) (groupsBy m a) sets-small (g - 1)) (groupsOf c))
+
+      length-six : c .code ≡ 6 → length ws ≡ suc (c .count)
+      length-six e =
+          length-map (groupsOf c) (setOf (groupsBy m a)) ∙ groups-length (m .s) c t wide ∙ ap (λ (k : ℕ). memberCount k (c .count)) e
+          ∙ unfold memberCount in native.Mathlib.Numerals.add-one (c .count)
+
+-- ---- the whole
+
+-- each satisfying assignment reads back as a solution, and each solution is read back from exactly one
+pub record OneForOne (m : Model) : Type 0 where
+  pub sound : (a : List Bool) → T (isSatisfying m a) → T (isSolution m (groupsBy m a))
+  pub found : (d : List ℕ) → T (isSolution m d) → (a : List Bool) × T (isSatisfying m a) × (groupsBy m a ≡ d)
+  pub alone : (a b : List Bool) → T (isSatisfying m a) → T (isSatisfying m b) → groupsBy m a ≡ groupsBy m b → a ≡ b
+
+-- an assignment's values from a variable on
+values-are : (xs : List Bool) (i n : ℕ) → i + n ≤ length xs → map (λ v. getD xs v false) (range i n) ≡ take n (drop i xs)
+values-are xs i zero h = refl
+values-are xs i (suc n) h = rw (drop-cons xs i false (omega arith), values-are xs (suc i) n (omega arith))
+
+module _ (m : Model) (r : T (inRange m)) (fix : T (isFixpoint m)) (z : Sized m) (wide : T (membersSized m)) where
+  O : ℕ
+  O = total openCount (tableOf m)
+
+  stables : All (Stable (m .n)) (tableOf m)
+  stables = table-stable m fix r
+
+  sets-are : (a : List Bool) → groupsBy m a ≡ overGroups (wordFrom (m .n) a) (tableOf m) 1 (1 + O)
+  unfolding groupsBy groupBy wordFrom rowWord O
+  sets-are a =
+      ap (map (groupBy m a)) (ap (range 1) (sym (table-length m z)))
+      ∙ Rattle.model.proofs.Lists.values-make (groupBy m a) (λ g. wordFrom (m .n) a (groupAt (tableOf m) g) (firstVariable (tableOf m) g) (firstOutput (tableOf m) g)) 1 1
+      (length (tableOf m)) (λ k h. word-ext (λ e. termTrue a (membership (tableOf m) e (1 + k))) (inRow (truth a) (groupAt (tableOf m) (1 + k) .fixed) (openOf (groupAt (tableOf m) (1 + k))) (firstVariable (tableOf m) (1 + k))) (m .n) (λ e l. term-row (1 + k) e))
+      ∙ numbered (wordFrom (m .n) a) (tableOf m)
+    where
+      term-row : (g e : ℕ)
+        → termTrue a (membership (tableOf m) e g) ≡ inRow (truth a) (groupAt (tableOf m) g .fixed) (openOf (groupAt (tableOf m) g)) (firstVariable (tableOf m) g) e
+      term-row g e = unfold membership variableOf in
+          go (has (groupAt (tableOf m) g .fixed) e) refl (has (groupAt (tableOf m) g .possible) e) refl
+        where
+          o : ℕ
+          o = openOf (groupAt (tableOf m) g)
+
+          var : Bool
+          var = truth a (firstVariable (tableOf m) g + size (o % 2 ^ e))
+
+          open-has : has o e ≡ (has (groupAt (tableOf m) g .possible) e && not (has (groupAt (tableOf m) g .fixed) e))
+          open-has = unfold openOf in has-less (groupAt (tableOf m) g .possible) (groupAt (tableOf m) g .fixed) e
+
+          go : (x : Bool) → has (groupAt (tableOf m) g .fixed) e ≡ x → (y : Bool) → has (groupAt (tableOf m) g .possible) e ≡ y
+            → termTrue a (cond x Holds (cond y (Open (Pos (firstVariable (tableOf m) g + size (o % 2 ^ e)))) Fails)) ≡ (x || (has o e && var))
+          go true p y q = refl
+          go false p true q = sym (ap (λ (b : Bool). b && var) (open-has ∙ ap₂ (λ (u w : Bool). u && not w) q p))
+          go false p false q = sym (ap (λ (b : Bool). b && var) (open-has ∙ ap₂ (λ (u w : Bool). u && not w) q p))
+
+  clauses-are : (a : List Bool) → T (allTrue a (each (groupClauses (tableOf m)) (range 1 (m .s)))) ↔ T (every (allTrue a) (overGroups clausesFrom (tableOf m) 1 (1 + O)))
+  unfolding groupClauses clausesFrom O
+  clauses-are a =
+      let e : allTrue a (each (groupClauses (tableOf m)) (range 1 (m .s))) ≡ every (allTrue a) (overGroups clausesFrom (tableOf m) 1 (1 + O)) =
+        every-each (clauseTrue a) (groupClauses (tableOf m)) (range 1 (m .s))
+        ∙ sym (every-map (allTrue a) (groupClauses (tableOf m)) (range 1 (m .s)))
+        ∙ ap (λ (k : ℕ). every (allTrue a) (map (groupClauses (tableOf m)) (range 1 k))) (sym (table-length m z))
+        ∙ ap (every (allTrue a)) (numbered clausesFrom (tableOf m)) in
+      (λ h. subst T e h, λ h. subst T (sym e) h)
+
+  constraints-are : (a : List Bool) → allTrue a (each (constraintClauses (m .n) (tableOf m)) (constraintsOf m)) ≡ every (constraintTrue (groupsBy m a)) (constraintsOf m)
+  constraints-are a =
+      every-each (clauseTrue a) (constraintClauses (m .n) (tableOf m)) (constraintsOf m)
+      ∙ every-all-ext (λ c. allTrue a (constraintClauses (m .n) (tableOf m) c)) (constraintTrue (groupsBy m a)) (constraintsOf m)
+      (all-imp (λ c. T (constraintInRange (m .s) c) × T (leb (limits .members) (length (c .groups))))
+      (λ c. allTrue a (constraintClauses (m .n) (tableOf m) c) ≡ constraintTrue (groupsBy m a) c)
+      (λ c h. constraint-true m a c (h .0) (leb→le (limits .members) (length (c .groups)) (h .1))) (constraintsOf m)
+      (all-zip (λ c. T (constraintInRange (m .s) c)) (λ c. T (leb (limits .members) (length (c .groups)))) (constraintsOf m)
+      (every-all (constraintInRange (m .s)) (constraintsOf m) (in-range m r .constraints))
+      (every-all (λ c. leb (limits .members) (length (c .groups))) (constraintsOf m) wide)))
+
+  open-part : (a : List Bool) → length a ≡ variableCount (tableOf m) → valuesFrom a 1 O ≡ take O a
+  unfolding O variableCount
+  open-part a h = values-are (false ∷ a) 1 O (omega arith)
+
+  output-part : (a : List Bool) → length a ≡ variableCount (tableOf m) → valuesFrom a (1 + O) (total outputsOf (tableOf m)) ≡ drop O a
+  unfolding O variableCount
+  output-part a h =
+      let e : 1 + O ≡ suc O = omega arith in
+      rw e
+      (values-are (false ∷ a) (suc O) (total outputsOf (tableOf m)) (omega arith)
+      ∙ take-all (total outputsOf (tableOf m)) (drop O a) (rw length-drop (omega arith)))
+
+  -- an assignment satisfies exactly when its outputs are filled in and its sets are a solution
+  main-iff : (a : List Bool) → length a ≡ variableCount (tableOf m)
+    → T (satisfying m a) ↔ ((drop O a ≡ fillAll (tableOf m) (take O a)) × T (isSolution m (groupsBy m a)))
+  unfolding satisfying isSolution O
+  main-iff a h =
+      let gs = each (groupClauses (tableOf m)) (range 1 (m .s)) in
+      let cs = each (constraintClauses (m .n) (tableOf m)) (constraintsOf m) in
+      let w = allTrue-append a gs cs in
+      let e : allTrue a (clauses m) ≡ allTrue a (gs ++ cs) = ap (allTrue a) (clauses-parts m z) in
+      let g = groups-iff (m .n) a (tableOf m) 1 (1 + O) stables in
+      let k = constraints-are a in
+      let p = output-part a h in
+      let q = ap (fillAll (tableOf m)) (open-part a h) in
+      let d : pairwise allowed (tableOf m) (groupsBy m a) ≡ pairwise allowed (tableOf m) (overGroups (wordFrom (m .n) a) (tableOf m) 1 (1 + O)) =
+        ap (pairwise allowed (tableOf m)) (sets-are a) in
+      let b = T-and (pairwise allowed (tableOf m) (groupsBy m a)) (every (constraintTrue (groupsBy m a)) (constraintsOf m)) in
+      (
+        λ t. let y = w .0 (subst T e t) in
+        let u = g .0 (clauses-are a .0 (y .0)) in
+        (sym p ∙ u .0 ∙ q, b .1 (subst T (sym d) (u .1), subst T k (y .1))),
+        λ x. let y = b .0 (x .1) in
+        subst T (sym e) (w .1 (clauses-are a .1 (g .1 (p ∙ x .0 ∙ sym q, subst T d (y .0))), subst T (sym k) (y .1))),
+      )
+
+  length-is : (a : List Bool) → T (isSatisfying m a) → length a ≡ variableCount (tableOf m)
+  unfolding isSatisfying isAssignment
+  length-is a t = eqb→eq (length a) (variableCount (tableOf m)) (and-left (eqb (length a) (variableCount (tableOf m))) (satisfying m a) t)
+
+  parts : (a : List Bool) → T (isSatisfying m a) → (drop O a ≡ fillAll (tableOf m) (take O a)) × T (isSolution m (groupsBy m a))
+  unfolding isSatisfying isAssignment
+  parts a t = main-iff a (length-is a t) .0 (and-right (eqb (length a) (variableCount (tableOf m))) (satisfying m a) t)
+
+  pub one-for-one : OneForOne m
+  unfolding O isSatisfying isAssignment isSolution variableCount
+  one-for-one = record { sound = λ a h. parts a h .1; found = found′; alone = alone′ }
+    where
+      found′ : (d : List ℕ) → T (isSolution m d) → (a : List Bool) × T (isSatisfying m a) × (groupsBy m a ≡ d)
+      found′ d hd =
+          (
+            a,
+            and-both (eqb (length a) (variableCount (tableOf m))) (satisfying m a) (subst (λ (k : ℕ). T (eqb (length a) k)) ha (eqb-refl (length a)))
+            (main-iff a ha .1 (dr ∙ sym (ap (fillAll (tableOf m)) tk), subst (λ (x : List ℕ). T (isSolution m x)) (sym e) hd)),
+            e,
+          )
+        where
+          xs : List Bool
+          xs = valuesOf (m .n) (tableOf m) d
+
+          a : List Bool
+          a = xs ++ fillAll (tableOf m) xs
+
+          hp : T (pairwise allowed (tableOf m) d)
+          hp = and-left (pairwise allowed (tableOf m) d) (every (constraintTrue d) (constraintsOf m)) hd
+
+          hx : length xs ≡ O
+          hx = values-total (m .n) (tableOf m) d stables hp
+
+          ha : length a ≡ variableCount (tableOf m)
+          ha = length-append xs (fillAll (tableOf m) xs) ∙ ap₂ (λ (x y : ℕ). x + y) hx (length-fillAll (tableOf m) xs)
+
+          tk : take O a ≡ xs
+          tk = take-at xs (fillAll (tableOf m) xs) O hx
+
+          dr : drop O a ≡ fillAll (tableOf m) xs
+          dr = drop-at xs (fillAll (tableOf m) xs) O hx
+
+          e : groupsBy m a ≡ d
+          e = sets-are a ∙ words-of (m .n) a (tableOf m) d 1 (1 + O) stables hp (open-part a ha ∙ tk)
+
+      alone′ : (a b : List Bool) → T (isSatisfying m a) → T (isSatisfying m b) → groupsBy m a ≡ groupsBy m b → a ≡ b
+      alone′ a b h k e = sym (take-append-drop O a) ∙ ap₂ (λ (x y : List Bool). x ++ y) tk dr ∙ take-append-drop O b
+        where
+          opened : (a : List Bool) → T (isSatisfying m a) → valuesOf (m .n) (tableOf m) (groupsBy m a) ≡ take O a
+          opened a h =
+              ap (valuesOf (m .n) (tableOf m)) (sets-are a) ∙ words-values (m .n) a (tableOf m) 1 (1 + O) stables ∙ open-part a (length-is a h)
+
+          tk : take O a ≡ take O b
+          tk = sym (opened a h) ∙ ap (valuesOf (m .n) (tableOf m)) e ∙ opened b k
+
+          dr : drop O a ≡ drop O b
+          dr = parts a h .0 ∙ ap (fillAll (tableOf m)) tk ∙ sym (parts b k .0)
