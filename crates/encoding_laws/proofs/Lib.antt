@@ -11,3 +11,4 @@ pub mod Nonempty
 pub mod Meaning
 pub mod Row
 pub mod Whole
+pub mod Ranges

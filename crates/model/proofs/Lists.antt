@@ -2,7 +2,7 @@
 use mathlib.Core.Path.{_≡_, refl, sym, ap, ap₂, _∙_, subst}
 use mathlib.Core.Logic.{_↔_}
 use Prim.Native.Nat.{ℕ, zero, suc, _+_, _-_, _*_, _≤_, _<_, suc-le-suc}
-use native.Mathlib.Nat.{add-zero, zero-add, add-suc, suc-add, suc-inj, add-assoc, le-of-suc-le-suc}
+use native.Mathlib.Nat.{add-zero, zero-add, add-suc, suc-add, suc-inj, suc-mul, add-assoc, le-of-suc-le-suc}
 use native.Mathlib.Omega.{arith}
 use native.Mathlib.Decide.{decLt, ℕ-discrete}
 use mathlib.Core.Bool.{Bool, true, false, not, _&&_, _||_}
@@ -336,3 +336,12 @@ pub range-getD : (a k i d : ℕ) → i < k → getD (range a k) i d ≡ a + i
 range-getD a zero i d h = absurd (omega arith)
 range-getD a (suc k) zero d h = sym (add-zero a)
 range-getD a (suc k) (suc i) d h = range-getD (suc a) k i d (omega arith) ∙ omega arith
+
+pub total-place : {A : Type 0} (f : A → ℕ) (t : List A) (i : ℕ) (d : A) → i < length t → total f (take i t) + f (getD t i d) ≤ total f t
+total-place f [] i d h = absurd (omega arith)
+total-place f (x ∷ xs) zero d h = omega arith
+total-place f (x ∷ xs) (suc i) d h = omega (arith, total-place f xs i d (omega arith))
+
+pub total-le : {A : Type 0} (f : A → ℕ) (c : ℕ) (xs : List A) → All (λ x. f x ≤ c) xs → total f xs ≤ length xs * c
+total-le f c [] h = omega arith
+total-le f c (x ∷ xs) h = omega (arith, h .0, total-le f c xs (h .1), suc-mul (length xs) c)

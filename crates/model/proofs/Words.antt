@@ -362,3 +362,10 @@ size-below e w =
     let d : w % 2 ^ suc e ≡ (w / 2 % 2 ^ e) * 2 + w % 2 = subst (λ (k : ℕ). w % 2 ^ k ≡ (w / 2 % 2 ^ e) * 2 + w % 2) (add-one e) (mod-pow-add w e 1) in
     size-step (w % 2 ^ suc e)
     ∙ ap₂ (λ (x y : ℕ). x + size y) (ap (λ (x : ℕ). x % 2) d ∙ omega arith) (ap (λ (x : ℕ). x / 2) d ∙ omega arith)
+
+-- a set bit is not counted below itself
+pub size-below-lt : (e w : ℕ) → bit e w ≡ 1 → size (w % 2 ^ e) < size w
+size-below-lt zero w h =
+    let z : w % 2 ^ 0 ≡ 0 = omega arith in
+    rw z (omega (arith, size-zero, size-step w, bit-first w))
+size-below-lt (suc e) w h = omega (arith, size-below e w, size-step w, size-below-lt e (w / 2) (sym (bit-next e w) ∙ h))
