@@ -12,3 +12,4 @@ pub mod Meaning
 pub mod Row
 pub mod Whole
 pub mod Ranges
+pub mod Decimal

@@ -9,7 +9,7 @@ use mathlib.Core.Bool.{Bool, true, false, not, _&&_, _||_}
 use mathlib.Core.List.{List, [], _∷_, _++_, map, append-assoc, head-eq-of-cons-eq, tail-eq-of-cons-eq}
 use lib.Dec.{T}
 use lib.ListN.{length, getD, set, take, drop, length-append, length-take}
-use Rattle.model.specs.Lists.{every, any, each, total, range, onPlace}
+use Rattle.model.specs.Lists.{every, any, those, each, total, range, onPlace}
 
 -- ---- tests as facts
 
@@ -345,3 +345,7 @@ total-place f (x ∷ xs) (suc i) d h = omega (arith, total-place f xs i d (omega
 pub total-le : {A : Type 0} (f : A → ℕ) (c : ℕ) (xs : List A) → All (λ x. f x ≤ c) xs → total f xs ≤ length xs * c
 total-le f c [] h = omega arith
 total-le f c (x ∷ xs) h = omega (arith, h .0, total-le f c xs (h .1), suc-mul (length xs) c)
+
+pub those-all : {A : Type 0} (p : A → Bool) (xs : List A) → All (λ x. T (p x)) xs → those p xs ≡ xs
+those-all p [] h = refl
+those-all p (x ∷ xs) h = rw (T-true (p x) (h .0), those) (ap {B = List _} (λ l. x ∷ l) (those-all p xs (h .1)))
