@@ -13,3 +13,4 @@ pub mod Row
 pub mod Whole
 pub mod Ranges
 pub mod Decimal
+pub mod Text
