@@ -14,3 +14,4 @@ pub mod Whole
 pub mod Ranges
 pub mod Decimal
 pub mod Text
+pub mod Bounds

@@ -92,7 +92,7 @@ module _ (s : ℕ) (c : Constraint) (t : T (constraintInRange s c)) where
       (all-imp (λ g. T (between 1 s g)) (λ g. g ≤ s) (λ g h. between-le 1 s g h .1) (groupsOf c) (every-all (between 1 s) (groupsOf c) groups-in)) i)
 
   -- "a count k (2 to 16)" where the code is 6
-  count-in : c .code ≡ 6 → c .count ≤ 16
+  pub count-in : c .code ≡ 6 → c .count ≤ 16
   unfolding codeInRange
   count-in e =
       let h = and-right (between 1 6 (c .code)) (not (eqb (c .code) 6) || between 2 (limits .members - 1) (c .count)) code-in in

@@ -75,7 +75,7 @@ open-apart : (n : ℕ) (r : Group) → Stable n r → Apart (r .fixed) (openOf r
 unfolding openOf
 open-apart n r s = record { bits = λ e. omega (arith, bit-less e (r .possible) (r .fixed), s .sub .at e, bit-le e (r .possible)) }
 
-open-lt : (n : ℕ) (r : Group) → Stable n r → openOf r < 2 ^ n
+pub open-lt : (n : ℕ) (r : Group) → Stable n r → openOf r < 2 ^ n
 unfolding openOf
 open-lt n r s = let h = sub-le (sub-less (r .possible) (r .fixed)) in omega (arith, s .bound)
 
