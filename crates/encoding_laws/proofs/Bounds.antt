@@ -26,7 +26,7 @@ use Rattle.model.specs.Cnf.{openOf, openCount, atLeast, atMost, counted, output
 use Rattle.model.specs.Text.{decimal, literalText, clauseText, headerText, blockText}
 use Rattle.model.specs.Assignment.{variable}
 use Rattle.model.proofs.Words.{size-le}
-use Rattle.model.proofs.Lists.{every-range, length-each, each-each, total-ext, total-map, total-append, total-const, total-le, All, all-append, all-imp, all-map, all-make, all-range, all-each, all-at, all-getD, every-all, range-length}
+use Rattle.model.proofs.Lists.{every-range, length-each, each-each, total-ext, total-map, total-append, total-const, total-le, total-mono, each-all, All, all-append, all-imp, all-map, all-make, all-range, all-each, all-at, all-getD, all-zip, every-all, range-length}
 use Rattle.encoding_laws.proofs.Sized.{Sized}
 use Rattle.encoding_laws.proofs.Counts.{group-length}
 use Rattle.encoding_laws.proofs.Groups.{table-length, constraints-length, group-block, constraint-block}
@@ -187,7 +187,7 @@ clauses-bytes cs h k =
     let x =
       total-le (λ c. length (clauseText c)) 23 cs
       (all-imp (λ c. All Short c × Three c) (λ c. length (clauseText c) ≤ 23) (λ c p. let q = p .1 in omega (arith, clause-bytes c (p .0))) cs
-      (Rattle.model.proofs.Lists.all-zip (All Short) Three cs h k)) in
+      (all-zip (All Short) Three cs h k)) in
     omega (arith, e, x)
 
 -- ---- a constraint's block
@@ -229,14 +229,6 @@ kept-bytes ts h = go (any holds ts) h
     go : (b : Bool) → All (All Short) (cond b [] (literals ts ∷ [])) → length (each clauseText (cond b [] (literals ts ∷ []))) ≤ 7 * length ts + 2
     go true h = omega arith
     go false h = omega (arith, clause-bytes (literals ts) (h .0), length-append (clauseText (literals ts)) [], literals-length ts)
-
-total-mono : {A : Type 0} (f g : A → ℕ) (xs : List A) → All (λ x. f x ≤ g x) xs → total f xs ≤ total g xs
-total-mono f g [] h = omega arith
-total-mono f g (x ∷ xs) h = omega (arith, h .0, total-mono f g xs (h .1))
-
-each-all : {A B : Type 0} (P : B → Type 0) (f : A → List B) (xs : List A) → All P (each f xs) → All (λ x. All P (f x)) xs
-each-all P f [] h = tt
-each-all P f (x ∷ xs) h = let s = all-append P (f x) (each f xs) .0 h in (s .0, each-all P f xs (s .1))
 
 entrant-bytes : (t : List Group) (c : Constraint) (e : ℕ) → Modest c → All (All Short) (clausesAt t c e) → length (each clauseText (clausesAt t c e)) ≤ 377
 unfolding clausesAt Modest

@@ -22,7 +22,7 @@ use Rattle.model.specs.Totalizer.{oppositeTerm, holds, literals, keep, Output, 
 use Rattle.model.specs.Cnf.{openCount, atLeast, atMost, counted, firstVariable, firstOutput, groupClauses, constraintClauses, blockClauses, clauses, groupClauseCount, clauseCount}
 use Rattle.model.proofs.Lists.{T-true, T-false, length-each, each-each, range-append, range-length, total-ext, total-map, total-add, total-append, total-const, total-but-one, places}
 use Rattle.encoding_laws.proofs.Node.{output-in, output-out}
-use Rattle.encoding_laws.proofs.Totalizer.{shapeIn-step, shapeIn-one, leaves-shapeIn}
+use Rattle.encoding_laws.proofs.Totalizer.{shapeIn-step, shapeIn-one, leaves-shapeIn, leaves-shape, shape-step}
 use Rattle.encoding_laws.proofs.Sized.{Sized}
 
 -- ---- a node: every clause but two is kept
@@ -156,6 +156,9 @@ node-total-length l r v o =
     ∙ ap₂ (λ (x y : ℕ). x + y) (length-append (treeClauses l v o) (treeClauses r w k))
     (node-length (rootOutput l v o) (leaves l) (rootOutput r w k) (leaves r) (k + outputs r))
 
+arrange : (x y a b : ℕ) → x + y + (2 * (suc a * suc b) - 2) ≡ x + y + 2 * ((a + 1) * (b + 1)) - 2
+arrange x y a b = omega arith
+
 length-treeIn : (f m v o : ℕ) → m ≤ f → length (treeClauses (shapeIn f m) v o) ≡ clauseCountIn f m
 unfolding treeClauses
 length-treeIn zero m v o h = rw (shapeIn-one zero m (omega arith), clauseCountIn-one zero m (omega arith))
@@ -175,9 +178,6 @@ length-treeIn (suc f) m v o h =
         (node-total-length a b v o
         ∙ rw (l v o (omega arith), r (v + leaves a) (o + outputs a) (omega arith), ea, eb)
         (arrange (clauseCountIn f (m / 2)) (clauseCountIn f (m - m / 2)) (m / 2) (m - m / 2)))
-      where
-        arrange : (x y a b : ℕ) → x + y + (2 * (suc a * suc b) - 2) ≡ x + y + 2 * ((a + 1) * (b + 1)) - 2
-        arrange x y a b = omega arith
     go (no h2) l r = rw (shapeIn-one (suc f) m (omega arith), clauseCountIn-one (suc f) m (omega arith))
 
 -- T(m) is the number of the tree's clauses, A(m) that of its outputs
@@ -205,6 +205,39 @@ outputs-in (suc f) m h = go (decLe 2 m) (outputs-in f (m / 2)) (outputs-in f (m 
 pub outputs-count : (m : ℕ) → outputs (shape m) ≡ treeOutputCount m
 unfolding shape treeOutputCount
 outputs-count m = outputs-in m m (le-refl m)
+
+-- "T(m) = T(left) + T(right) + 2(a+1)(b+1) - 2", "A(m) = m + A(left) + A(right)"; both are 0 for a size of 1
+pub clause-count-step : (m : ℕ) → 2 ≤ m
+  → treeClauseCount m ≡ treeClauseCount (m / 2) + treeClauseCount (m - m / 2) + 2 * ((m / 2 + 1) * (m - m / 2 + 1)) - 2
+clause-count-step m h =
+    let a = shape (m / 2) in
+    let b = shape (m - m / 2) in
+    sym (tree-length m 0 0)
+    ∙ ap (λ (s : Shape). length (treeClauses s 0 0)) (shape-step m h)
+    ∙ node-total-length a b 0 0
+    ∙ rw (
+      tree-length (m / 2) 0 0,
+      tree-length (m - m / 2) (0 + leaves a) (0 + outputs a),
+      leaves-shape (m / 2) (omega arith),
+      leaves-shape (m - m / 2) (omega arith),
+    )
+    (arrange (treeClauseCount (m / 2)) (treeClauseCount (m - m / 2)) (m / 2) (m - m / 2))
+
+pub output-count-step : (m : ℕ) → 2 ≤ m → treeOutputCount m ≡ m + treeOutputCount (m / 2) + treeOutputCount (m - m / 2)
+output-count-step m h =
+    sym (outputs-count m)
+    ∙ ap outputs (shape-step m h)
+    ∙ omega (
+      arith,
+      outputs-count (m / 2),
+      outputs-count (m - m / 2),
+      leaves-shape (m / 2) (omega arith),
+      leaves-shape (m - m / 2) (omega arith),
+    )
+
+pub count-one : (treeClauseCount 1 ≡ 0) × (treeOutputCount 1 ≡ 0)
+unfolding treeClauseCount clauseCountIn treeOutputCount outputCountIn
+count-one = (refl, refl)
 
 -- ---- a totalizer: "T(m) + L + m - U"
 

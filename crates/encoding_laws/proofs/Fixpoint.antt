@@ -16,7 +16,7 @@ use Rattle.model.specs.declared.Constraint.{Constraint}
 use Rattle.model.specs.declared.Model.{Model}
 use Rattle.model.specs.Lists.{every, pairwise, range, onPlace, between}
 use Rattle.model.specs.Limits.{limits}
-use Rattle.model.specs.Words.{less, size, inside}
+use Rattle.model.specs.Words.{full, less, size, inside}
 use Rattle.model.specs.Clauses.{clausesOf}
 use Rattle.model.specs.Model.{tableOf, constraintsOf, groupInRange, constraintInRange, inRange}
 use Rattle.model.specs.Propagate.{limited, cut, filled, groupRule, allFalse, fixedWith, possibleWithout, madeTrue, literalRule, run, clauseRules, clauseRule, constraintRule, groupRuleAt, rules, pass, groupConsistent, consistent, sameGroup, sameTable, isFixpoint}
@@ -115,7 +115,7 @@ made-narrows (Neg g) w = place-narrows (g - 1) (possibleWithout w) (λ r. record
 
 literal-narrows : (n : ℕ) (l : Literal) (others : List Literal) → Narrows (literalRule n l others)
 unfolding literalRule
-literal-narrows n l others t = made-narrows l (allFalse t (Rattle.model.specs.Words.full n) others) t
+literal-narrows n l others t = made-narrows l (allFalse t (full n) others) t
 
 literals-narrow : (n : ℕ) (before c : List Literal) → All Narrows (clauseRules n before c)
 unfolding clauseRules

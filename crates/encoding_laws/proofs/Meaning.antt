@@ -16,7 +16,7 @@ use Rattle.model.specs.Words.{less, bit, has, inside}
 use Rattle.model.specs.Clauses.{memberCount, shortClauses, unionClauses, memberClauses}
 use Rattle.model.specs.Solution.{union, meaning}
 use Rattle.model.proofs.Words.{bit-ext, bit-past, bit-le, bit-and, bit-or, bit-less, bit-zero, Sub, inside-sub, sub-inside, has-one, has-none, one-has, has-and, has-or, has-less, has-zero}
-use Rattle.model.proofs.Lists.{T-ext, T-true, or-assoc, every-range, range-every, any-map, values-make, places, All, all-getD}
+use Rattle.model.proofs.Lists.{T-ext, T-true, or-assoc, every-range, range-every, every-ext, any-range-ext, any-map, values-make, places, All, all-getD}
 use Rattle.encoding_laws.proofs.Members.{by-code}
 
 -- ---- one entrant: member i holds him where b i does
@@ -111,11 +111,6 @@ module _ (b : ℕ → Bool) where
       (ap₂ (λ (x y : Bool). x && y) (long (range 1 k)) (short (range 1 k)) ∙ many-eq (b 0) (any b (range 1 k)))
       code t
 
-any-range-ext : (p q : ℕ → Bool) (i n : ℕ) → ((j : ℕ) → i ≤ j → j < i + n → p j ≡ q j) → any p (range i n) ≡ any q (range i n)
-any-range-ext p q i zero h = refl
-any-range-ext p q i (suc n) h =
-    ap₂ (λ (x y : Bool). x || y) (h i (omega arith) (omega arith)) (any-range-ext p q (suc i) n (λ j l k. h j (omega arith) (omega arith)))
-
 -- only the members count
 pub meaning-ext : (code k : ℕ) (b c : ℕ → Bool) → T (between 1 6 code) → ((i : ℕ) → i < memberCount code k → b i ≡ c i) → meaningAt code k b ≡ meaningAt code k c
 unfolding meaningAt memberCount
@@ -194,9 +189,6 @@ below-union n [] h = record { past = λ e l. bit-zero e }
 below-union n (w ∷ ws) h =
     record { past = λ e l. bit-or e w (union ws) ∙ omega (arith, bit-past n e w (h .0) l, below-union n ws (h .1) .past e l) }
 
-every-ext-eq : (p q : ℕ → Bool) (n : ℕ) → ((e : ℕ) → p e ≡ q e) → every p (range 0 n) ≡ every q (range 0 n)
-every-ext-eq p q n h = Rattle.model.proofs.Lists.every-ext p q h (range 0 n)
-
 -- the members' sets: the meaning of the code is its meaning for every entrant
 module _ (n : ℕ) (ws : List ℕ) (small : All (λ w. w < 2 ^ n) ws) (pos : 0 < 2 ^ n) where
   at : ℕ → ℕ
@@ -232,15 +224,15 @@ module _ (n : ℕ) (ws : List ℕ) (small : All (λ w. w < 2 ^ n) ws) (pos : 0 <
       (λ h. equal-words n (at 0) (at 1) (belows 0) (belows 1))
       (λ h. inside-words n (at 0) (at 1) (belows 0))
       (λ h. equal-words n (at 0) (bitAnd (at 1) (at 2)) (belows 0) (record { past = λ e l. bit-and e (at 1) (at 2) ∙ omega (arith, belows 1 .past e l) })
-      ∙ every-ext-eq (λ e. Bool·beq (has (at 0) e) (has (bitAnd (at 1) (at 2)) e)) (λ e. Bool·beq (has (at 0) e) (has (at 1) e && has (at 2) e)) n
-      (λ e. ap (Bool·beq (has (at 0) e)) (has-and (at 1) (at 2) e)))
+      ∙ every-ext (λ e. Bool·beq (has (at 0) e) (has (bitAnd (at 1) (at 2)) e)) (λ e. Bool·beq (has (at 0) e) (has (at 1) e && has (at 2) e))
+      (λ e. ap (Bool·beq (has (at 0) e)) (has-and (at 1) (at 2) e)) (range 0 n))
       (λ h. equal-words n (at 0) (bitOr (at 1) (at 2)) (belows 0) (record { past = λ e l. bit-or e (at 1) (at 2) ∙ omega (arith, belows 1 .past e l, belows 2 .past e l) })
-      ∙ every-ext-eq (λ e. Bool·beq (has (at 0) e) (has (bitOr (at 1) (at 2)) e)) (λ e. Bool·beq (has (at 0) e) (has (at 1) e || has (at 2) e)) n
-      (λ e. ap (Bool·beq (has (at 0) e)) (has-or (at 1) (at 2) e)))
+      ∙ every-ext (λ e. Bool·beq (has (at 0) e) (has (bitOr (at 1) (at 2)) e)) (λ e. Bool·beq (has (at 0) e) (has (at 1) e || has (at 2) e))
+      (λ e. ap (Bool·beq (has (at 0) e)) (has-or (at 1) (at 2) e)) (range 0 n))
       (λ h. equal-words n (at 0) (less (at 1) (at 2)) (belows 0) (record { past = λ e l. bit-less e (at 1) (at 2) ∙ omega (arith, belows 1 .past e l) })
-      ∙ every-ext-eq (λ e. Bool·beq (has (at 0) e) (has (less (at 1) (at 2)) e)) (λ e. Bool·beq (has (at 0) e) (has (at 1) e && not (has (at 2) e))) n
-      (λ e. ap (Bool·beq (has (at 0) e)) (has-less (at 1) (at 2) e)))
+      ∙ every-ext (λ e. Bool·beq (has (at 0) e) (has (less (at 1) (at 2)) e)) (λ e. Bool·beq (has (at 0) e) (has (at 1) e && not (has (at 2) e)))
+      (λ e. ap (Bool·beq (has (at 0) e)) (has-less (at 1) (at 2) e)) (range 0 n))
       (λ h. equal-words n (at 0) (union (drop 1 ws)) (belows 0) (below-union n (drop 1 ws) rest-small)
-      ∙ every-ext-eq (λ e. Bool·beq (has (at 0) e) (has (union (drop 1 ws)) e)) (λ e. Bool·beq (has (at 0) e) (any (λ i. has (at i) e) (range 1 k))) n
-      (λ e. ap (Bool·beq (has (at 0) e)) (members k (h refl) e)))
+      ∙ every-ext (λ e. Bool·beq (has (at 0) e) (has (union (drop 1 ws)) e)) (λ e. Bool·beq (has (at 0) e) (any (λ i. has (at i) e) (range 1 k)))
+      (λ e. ap (Bool·beq (has (at 0) e)) (members k (h refl) e)) (range 0 n))
       code t

@@ -15,7 +15,7 @@ use Rattle.model.specs.declared.Term.the-variants.{Holds, Fails, Open}
 use Rattle.model.specs.Lists.{every, any, each, range}
 use Rattle.model.specs.Totalizer.{oppositeTerm, keep, Output, up, down, formed, output, putIn, nodeClauses}
 use Rattle.model.specs.Close.{truth, termTrue, clauseTrue}
-use Rattle.model.proofs.Lists.{T-ext, T-true, T-false, every-each, every-range, range-every}
+use Rattle.model.proofs.Lists.{T-ext, T-true, T-false, every-each, every-ext, every-range, range-every}
 use Rattle.encoding_laws.proofs.Truth.{allTrue, T-and, opposite-true, kept-true}
 
 -- m variables from f on are the unary count of x
@@ -85,7 +85,7 @@ module _ (a : List Bool) (c left d right o x y : ℕ) (hx : x ≤ left) (hy : y 
   unfolding formed pairTrue
   formedTrue =
       every-each holdsIn (λ p. each (λ q. up p q ∷ down p q ∷ []) (range 0 (suc right))) (range 0 (suc left))
-      ∙ Rattle.model.proofs.Lists.every-ext (λ p. every holdsIn (each (λ q. up p q ∷ down p q ∷ []) (range 0 (suc right))))
+      ∙ every-ext (λ p. every holdsIn (each (λ q. up p q ∷ down p q ∷ []) (range 0 (suc right))))
       (λ p. every (pairTrue p) (range 0 (suc right)))
       (λ p. every-each holdsIn (λ q. up p q ∷ down p q ∷ []) (range 0 (suc right))) (range 0 (suc left))
 

@@ -195,9 +195,9 @@ module _ (α : ℕ → Bool) where
               omega (arith, has-none w e (has-word (inRow α f o v) n e l ∙ ap₂ (λ (x y : Bool). x || (y && α (v + size (o % 2 ^ e)))) p q))
       snd e (no l) = omega (arith, bit-past n e w (word-lt (inRow α f o v) n) (omega arith))
 
-pub values-length : (n o w : ℕ) → o < 2 ^ n → length (openValues n o w) ≡ size o
-values-length zero o w h = let q : o ≡ 0 = omega arith in rw (q, size-zero)
-values-length (suc n) o w h = go (o % 2) refl (values-length n (o / 2) (w / 2) (omega arith)) ∙ sym (size-step o)
+pub openValues-length : (n o w : ℕ) → o < 2 ^ n → length (openValues n o w) ≡ size o
+openValues-length zero o w h = let q : o ≡ 0 = omega arith in rw (q, size-zero)
+openValues-length (suc n) o w h = go (o % 2) refl (openValues-length n (o / 2) (w / 2) (omega arith)) ∙ sym (size-step o)
   where
     go : (b : ℕ) → o % 2 ≡ b → length (openValues n (o / 2) (w / 2)) ≡ size (o / 2)
       → length (putValue b (w % 2) (openValues n (o / 2) (w / 2))) ≡ b + size (o / 2)

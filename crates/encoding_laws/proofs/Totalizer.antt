@@ -13,7 +13,7 @@ use lib.ListN.{length}
 use Rattle.model.specs.declared.Literal.{Literal}
 use Rattle.model.specs.declared.Literal.the-variants.{Pos, Neg}
 use Rattle.model.specs.Lists.{every, range}
-use Rattle.model.specs.Totalizer.{Shape, leaf, node, shapeIn, shape, leaves, rootOutput, treeClauses, unit, unitClauses, totalizerClauses}
+use Rattle.model.specs.Totalizer.{nodeClauses, Shape, leaf, node, shapeIn, shape, leaves, outputs, rootOutput, treeClauses, unit, unitClauses, totalizerClauses}
 use Rattle.model.specs.Close.{truth, literalTrue, clauseTrue}
 use Rattle.model.proofs.Lists.{T-true, T-false, every-map, every-range, range-every}
 use Rattle.encoding_laws.proofs.Truth.{allTrue, allTrue-append}
@@ -118,6 +118,22 @@ shape-step (suc k) h =
 pub shape-one : (m : ℕ) → m ≤ 1 → shape m ≡ leaf
 unfolding shape
 shape-one m h = shapeIn-one m m h
+
+-- the clauses and the root of a tree of size m, from those of its halves
+pub tree-step : (m v o : ℕ) → 2 ≤ m
+  → treeClauses (shape m) v o
+  ≡ treeClauses (shape (m / 2)) v o
+  ++ treeClauses (shape (m - m / 2)) (v + m / 2) (o + outputs (shape (m / 2)))
+  ++ nodeClauses (rootOutput (shape (m / 2)) v o) (m / 2) (rootOutput (shape (m - m / 2)) (v + m / 2) (o + outputs (shape (m / 2)))) (m - m / 2)
+  (o + outputs (shape (m / 2)) + outputs (shape (m - m / 2)))
+unfolding treeClauses
+tree-step m v o h = rw (shape-step m h) (rw (leaves-shape (m / 2) (omega arith), leaves-shape (m - m / 2) (omega arith)))
+
+pub root-step : (m v o : ℕ) → 2 ≤ m → rootOutput (shape m) v o + m ≡ o + outputs (shape m)
+root-step m v o h =
+    let a = leaves-shape (m / 2) (omega arith) in
+    let b = leaves-shape (m - m / 2) (omega arith) in
+    rw (shape-step m h) (omega arith)
 
 -- ---- the totalizer of m leaves from v on, its outputs from o on
 

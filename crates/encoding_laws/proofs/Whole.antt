@@ -30,7 +30,7 @@ use Rattle.model.specs.Solution.{allowed, meaning, setOf, constraintTrue, isSol
 use Rattle.model.specs.Close.{truth, termTrue, clauseTrue, satisfying, groupBy, groupsBy}
 use Rattle.model.specs.Demand.{isAssignment, isSatisfying}
 use Rattle.model.proofs.Words.{Sub, sub-inside, inside-sub, sub-less, sub-le, size-less, bit-less, bit-le, has-one, has-none, has-less, word-ext, word-lt, has-word}
-use Rattle.model.proofs.Lists.{T-true, T-false, and-left, and-right, and-both, every-each, every-map, every-ext, any-map, any-ext, every-range-ext, every-all-ext, values-append, append-iff, All, all-imp, all-zip, all-map, all-make, all-getD, every-all, getD-map-in, range-getD, range-length}
+use Rattle.model.proofs.Lists.{T-true, T-false, and-left, and-right, and-both, every-each, every-map, every-ext, any-map, any-ext, every-range-ext, every-all-ext, values-make, values-append, values-length, append-iff, All, all-imp, all-zip, all-map, all-make, all-getD, every-all, getD-map-in, range-getD, range-length}
 use Rattle.encoding_laws.proofs.Sized.{Sized, membersSized}
 use Rattle.encoding_laws.proofs.Truth.{allTrue, allTrue-append, T-and, opposite-true, kept-true}
 use Rattle.encoding_laws.proofs.Tree.{count, fill, length-fill, valuesFrom, count-le}
@@ -40,7 +40,7 @@ use Rattle.encoding_laws.proofs.Groups.{table-length, clauses-parts, ov
 use Rattle.encoding_laws.proofs.Fixpoint.{Stable, InRange, in-range, table-stable}
 use Rattle.encoding_laws.proofs.Members.{code-six, groups-length, member-group}
 use Rattle.encoding_laws.proofs.Meaning.{memberTrue, meaningAt, clauses-meaning, meaning-ext, meaning-words}
-use Rattle.encoding_laws.proofs.Row.{inRow, rowWord, openValues, Apart, Holding, row-size, row-values, row-of, row-holding, values-length}
+use Rattle.encoding_laws.proofs.Row.{inRow, rowWord, openValues, Apart, Holding, row-size, row-values, row-of, row-holding, openValues-length}
 
 -- ---- one group
 
@@ -123,7 +123,7 @@ module _ (n : ℕ) (a : List Bool) (r : Group) (v o : ℕ) (s : Stable n r) wher
       l = limits-of n r s
 
       hx : x ≤ m
-      hx = rw (Rattle.model.proofs.Lists.values-length (truth a) v m) at (count-le (valuesFrom a v m))
+      hx = rw (values-length (truth a) v m) at (count-le (valuesFrom a v m))
 
       go : (b : Bool) → counted r ≡ b
         → T (allTrue a (cond b (totalizerClauses m v o (atLeast r) (atMost r)) []))
@@ -208,7 +208,7 @@ values-total n [] (w ∷ ws) s h = absurd h
 values-total n (r ∷ rs) [] s h = absurd h
 values-total n (r ∷ rs) (w ∷ ws) s h =
     length-append (openValues n (openOf r) w) (valuesOf n rs ws)
-    ∙ ap₂ (λ (a b : ℕ). a + b) (values-length n (openOf r) w (open-lt n r (s .0)))
+    ∙ ap₂ (λ (a b : ℕ). a + b) (openValues-length n (openOf r) w (open-lt n r (s .0)))
     (values-total n rs ws (s .1) (and-right (allowed r w) (pairwise allowed rs ws) h))
 
 module _ (n : ℕ) (a : List Bool) where
@@ -231,7 +231,7 @@ module _ (n : ℕ) (a : List Bool) where
       let q = allowed-holding n r w (s .0) (and-left (allowed r w) (pairwise allowed rs ws) h) in
       let p =
         append-iff (valuesFrom a v k) (valuesFrom a (v + k) (total openCount rs)) (openValues n (openOf r) w) (valuesOf n rs ws)
-        (Rattle.model.proofs.Lists.values-length (truth a) v k ∙ sym (values-length n (openOf r) w (open-lt n r (s .0)))) .0
+        (values-length (truth a) v k ∙ sym (openValues-length n (openOf r) w (open-lt n r (s .0)))) .0
         (sym (values-append (truth a) v k (total openCount rs)) ∙ e) in
       ap₂ (λ (x : ℕ) (xs : List ℕ). x ∷ xs)
       (row-of (truth a) n (r .fixed) (openOf r) v w (fixed-lt n r (s .0)) (open-lt n r (s .0)) (q .1) (open-apart n r (s .0)) (q .0) (p .0))
@@ -246,7 +246,7 @@ module _ (n : ℕ) (a : List Bool) where
       let j : ℕ = outputsOf r in
       let xs = valuesFrom a v k in
       let ys = valuesFrom a (v + k) (total openCount rs) in
-      let len = Rattle.model.proofs.Lists.values-length (truth a) v k in
+      let len = values-length (truth a) v k in
       let g = group-iff n a r v o (s .0) in
       let l = allowed-iff n a r v o (s .0) in
       let b = groups-iff rs (v + k) (o + j) (s .1) in
@@ -254,7 +254,7 @@ module _ (n : ℕ) (a : List Bool) where
       let w = T-and (allowed r (wordFrom n a r v o)) (pairwise allowed rs (overGroups (wordFrom n a) rs (v + k) (o + j))) in
       let z =
         append-iff (valuesFrom a o j) (valuesFrom a (o + j) (total outputsOf rs)) (fillOf r xs) (fillAll rs ys)
-        (Rattle.model.proofs.Lists.values-length (truth a) o j ∙ sym (length-fillOf r xs)) in
+        (values-length (truth a) o j ∙ sym (length-fillOf r xs)) in
       let ours : valuesFrom a o (j + total outputsOf rs) ≡ valuesFrom a o j ++ valuesFrom a (o + j) (total outputsOf rs) =
         values-append (truth a) o j (total outputsOf rs) in
       let theirs : fillAll (r ∷ rs) (valuesFrom a v (k + total openCount rs)) ≡ fillOf r xs ++ fillAll rs ys =
@@ -350,17 +350,17 @@ values-are xs i zero h = refl
 values-are xs i (suc n) h = rw (drop-cons xs i false (omega arith), values-are xs (suc i) n (omega arith))
 
 module _ (m : Model) (r : T (inRange m)) (fix : T (isFixpoint m)) (z : Sized m) (wide : T (membersSized m)) where
-  O : ℕ
-  O = total openCount (tableOf m)
+  opens : ℕ
+  opens = total openCount (tableOf m)
 
   stables : All (Stable (m .n)) (tableOf m)
   stables = table-stable m fix r
 
-  sets-are : (a : List Bool) → groupsBy m a ≡ overGroups (wordFrom (m .n) a) (tableOf m) 1 (1 + O)
-  unfolding groupsBy groupBy wordFrom rowWord O
+  sets-are : (a : List Bool) → groupsBy m a ≡ overGroups (wordFrom (m .n) a) (tableOf m) 1 (1 + opens)
+  unfolding groupsBy groupBy wordFrom rowWord opens
   sets-are a =
       ap (map (groupBy m a)) (ap (range 1) (sym (table-length m z)))
-      ∙ Rattle.model.proofs.Lists.values-make (groupBy m a) (λ g. wordFrom (m .n) a (groupAt (tableOf m) g) (firstVariable (tableOf m) g) (firstOutput (tableOf m) g)) 1 1
+      ∙ values-make (groupBy m a) (λ g. wordFrom (m .n) a (groupAt (tableOf m) g) (firstVariable (tableOf m) g) (firstOutput (tableOf m) g)) 1 1
       (length (tableOf m)) (λ k h. word-ext (λ e. termTrue a (membership (tableOf m) e (1 + k))) (inRow (truth a) (groupAt (tableOf m) (1 + k) .fixed) (openOf (groupAt (tableOf m) (1 + k))) (firstVariable (tableOf m) (1 + k))) (m .n) (λ e l. term-row (1 + k) e))
       ∙ numbered (wordFrom (m .n) a) (tableOf m)
     where
@@ -384,10 +384,10 @@ module _ (m : Model) (r : T (inRange m)) (fix : T (isFixpoint m)) (z : Sized m) 
           go false p true q = sym (ap (λ (b : Bool). b && var) (open-has ∙ ap₂ (λ (u w : Bool). u && not w) q p))
           go false p false q = sym (ap (λ (b : Bool). b && var) (open-has ∙ ap₂ (λ (u w : Bool). u && not w) q p))
 
-  clauses-are : (a : List Bool) → T (allTrue a (each (groupClauses (tableOf m)) (range 1 (m .s)))) ↔ T (every (allTrue a) (overGroups clausesFrom (tableOf m) 1 (1 + O)))
-  unfolding groupClauses clausesFrom O
+  clauses-are : (a : List Bool) → T (allTrue a (each (groupClauses (tableOf m)) (range 1 (m .s)))) ↔ T (every (allTrue a) (overGroups clausesFrom (tableOf m) 1 (1 + opens)))
+  unfolding groupClauses clausesFrom opens
   clauses-are a =
-      let e : allTrue a (each (groupClauses (tableOf m)) (range 1 (m .s))) ≡ every (allTrue a) (overGroups clausesFrom (tableOf m) 1 (1 + O)) =
+      let e : allTrue a (each (groupClauses (tableOf m)) (range 1 (m .s))) ≡ every (allTrue a) (overGroups clausesFrom (tableOf m) 1 (1 + opens)) =
         every-each (clauseTrue a) (groupClauses (tableOf m)) (range 1 (m .s))
         ∙ sym (every-map (allTrue a) (groupClauses (tableOf m)) (range 1 (m .s)))
         ∙ ap (λ (k : ℕ). every (allTrue a) (map (groupClauses (tableOf m)) (range 1 k))) (sym (table-length m z))
@@ -405,32 +405,32 @@ module _ (m : Model) (r : T (inRange m)) (fix : T (isFixpoint m)) (z : Sized m) 
       (every-all (constraintInRange (m .s)) (constraintsOf m) (in-range m r .constraints))
       (every-all (λ c. leb (limits .members) (length (c .groups))) (constraintsOf m) wide)))
 
-  open-part : (a : List Bool) → length a ≡ variableCount (tableOf m) → valuesFrom a 1 O ≡ take O a
-  unfolding O variableCount
-  open-part a h = values-are (false ∷ a) 1 O (omega arith)
+  open-part : (a : List Bool) → length a ≡ variableCount (tableOf m) → valuesFrom a 1 opens ≡ take opens a
+  unfolding opens variableCount
+  open-part a h = values-are (false ∷ a) 1 opens (omega arith)
 
-  output-part : (a : List Bool) → length a ≡ variableCount (tableOf m) → valuesFrom a (1 + O) (total outputsOf (tableOf m)) ≡ drop O a
-  unfolding O variableCount
+  output-part : (a : List Bool) → length a ≡ variableCount (tableOf m) → valuesFrom a (1 + opens) (total outputsOf (tableOf m)) ≡ drop opens a
+  unfolding opens variableCount
   output-part a h =
-      let e : 1 + O ≡ suc O = omega arith in
+      let e : 1 + opens ≡ suc opens = omega arith in
       rw e
-      (values-are (false ∷ a) (suc O) (total outputsOf (tableOf m)) (omega arith)
-      ∙ take-all (total outputsOf (tableOf m)) (drop O a) (rw length-drop (omega arith)))
+      (values-are (false ∷ a) (suc opens) (total outputsOf (tableOf m)) (omega arith)
+      ∙ take-all (total outputsOf (tableOf m)) (drop opens a) (rw length-drop (omega arith)))
 
   -- an assignment satisfies exactly when its outputs are filled in and its sets are a solution
   main-iff : (a : List Bool) → length a ≡ variableCount (tableOf m)
-    → T (satisfying m a) ↔ ((drop O a ≡ fillAll (tableOf m) (take O a)) × T (isSolution m (groupsBy m a)))
-  unfolding satisfying isSolution O
+    → T (satisfying m a) ↔ ((drop opens a ≡ fillAll (tableOf m) (take opens a)) × T (isSolution m (groupsBy m a)))
+  unfolding satisfying isSolution opens
   main-iff a h =
       let gs = each (groupClauses (tableOf m)) (range 1 (m .s)) in
       let cs = each (constraintClauses (m .n) (tableOf m)) (constraintsOf m) in
       let w = allTrue-append a gs cs in
       let e : allTrue a (clauses m) ≡ allTrue a (gs ++ cs) = ap (allTrue a) (clauses-parts m z) in
-      let g = groups-iff (m .n) a (tableOf m) 1 (1 + O) stables in
+      let g = groups-iff (m .n) a (tableOf m) 1 (1 + opens) stables in
       let k = constraints-are a in
       let p = output-part a h in
       let q = ap (fillAll (tableOf m)) (open-part a h) in
-      let d : pairwise allowed (tableOf m) (groupsBy m a) ≡ pairwise allowed (tableOf m) (overGroups (wordFrom (m .n) a) (tableOf m) 1 (1 + O)) =
+      let d : pairwise allowed (tableOf m) (groupsBy m a) ≡ pairwise allowed (tableOf m) (overGroups (wordFrom (m .n) a) (tableOf m) 1 (1 + opens)) =
         ap (pairwise allowed (tableOf m)) (sets-are a) in
       let b = T-and (pairwise allowed (tableOf m) (groupsBy m a)) (every (constraintTrue (groupsBy m a)) (constraintsOf m)) in
       (
@@ -445,12 +445,12 @@ module _ (m : Model) (r : T (inRange m)) (fix : T (isFixpoint m)) (z : Sized m) 
   unfolding isSatisfying isAssignment
   length-is a t = eqb→eq (length a) (variableCount (tableOf m)) (and-left (eqb (length a) (variableCount (tableOf m))) (satisfying m a) t)
 
-  parts : (a : List Bool) → T (isSatisfying m a) → (drop O a ≡ fillAll (tableOf m) (take O a)) × T (isSolution m (groupsBy m a))
+  parts : (a : List Bool) → T (isSatisfying m a) → (drop opens a ≡ fillAll (tableOf m) (take opens a)) × T (isSolution m (groupsBy m a))
   unfolding isSatisfying isAssignment
   parts a t = main-iff a (length-is a t) .0 (and-right (eqb (length a) (variableCount (tableOf m))) (satisfying m a) t)
 
   pub one-for-one : OneForOne m
-  unfolding O isSatisfying isAssignment isSolution variableCount
+  unfolding opens isSatisfying isAssignment isSolution variableCount
   one-for-one = record { sound = λ a h. parts a h .1; found = found′; alone = alone′ }
     where
       found′ : (d : List ℕ) → T (isSolution m d) → (a : List Bool) × T (isSatisfying m a) × (groupsBy m a ≡ d)
@@ -471,30 +471,30 @@ module _ (m : Model) (r : T (inRange m)) (fix : T (isFixpoint m)) (z : Sized m) 
           hp : T (pairwise allowed (tableOf m) d)
           hp = and-left (pairwise allowed (tableOf m) d) (every (constraintTrue d) (constraintsOf m)) hd
 
-          hx : length xs ≡ O
+          hx : length xs ≡ opens
           hx = values-total (m .n) (tableOf m) d stables hp
 
           ha : length a ≡ variableCount (tableOf m)
           ha = length-append xs (fillAll (tableOf m) xs) ∙ ap₂ (λ (x y : ℕ). x + y) hx (length-fillAll (tableOf m) xs)
 
-          tk : take O a ≡ xs
-          tk = take-at xs (fillAll (tableOf m) xs) O hx
+          tk : take opens a ≡ xs
+          tk = take-at xs (fillAll (tableOf m) xs) opens hx
 
-          dr : drop O a ≡ fillAll (tableOf m) xs
-          dr = drop-at xs (fillAll (tableOf m) xs) O hx
+          dr : drop opens a ≡ fillAll (tableOf m) xs
+          dr = drop-at xs (fillAll (tableOf m) xs) opens hx
 
           e : groupsBy m a ≡ d
-          e = sets-are a ∙ words-of (m .n) a (tableOf m) d 1 (1 + O) stables hp (open-part a ha ∙ tk)
+          e = sets-are a ∙ words-of (m .n) a (tableOf m) d 1 (1 + opens) stables hp (open-part a ha ∙ tk)
 
       alone′ : (a b : List Bool) → T (isSatisfying m a) → T (isSatisfying m b) → groupsBy m a ≡ groupsBy m b → a ≡ b
-      alone′ a b h k e = sym (take-append-drop O a) ∙ ap₂ (λ (x y : List Bool). x ++ y) tk dr ∙ take-append-drop O b
+      alone′ a b h k e = sym (take-append-drop opens a) ∙ ap₂ (λ (x y : List Bool). x ++ y) tk dr ∙ take-append-drop opens b
         where
-          opened : (a : List Bool) → T (isSatisfying m a) → valuesOf (m .n) (tableOf m) (groupsBy m a) ≡ take O a
+          opened : (a : List Bool) → T (isSatisfying m a) → valuesOf (m .n) (tableOf m) (groupsBy m a) ≡ take opens a
           opened a h =
-              ap (valuesOf (m .n) (tableOf m)) (sets-are a) ∙ words-values (m .n) a (tableOf m) 1 (1 + O) stables ∙ open-part a (length-is a h)
+              ap (valuesOf (m .n) (tableOf m)) (sets-are a) ∙ words-values (m .n) a (tableOf m) 1 (1 + opens) stables ∙ open-part a (length-is a h)
 
-          tk : take O a ≡ take O b
+          tk : take opens a ≡ take opens b
           tk = sym (opened a h) ∙ ap (valuesOf (m .n) (tableOf m)) e ∙ opened b k
 
-          dr : drop O a ≡ drop O b
+          dr : drop opens a ≡ drop opens b
           dr = parts a h .0 ∙ ap (fillAll (tableOf m)) tk ∙ sym (parts b k .0)

@@ -349,3 +349,16 @@ total-le f c (x ∷ xs) h = omega (arith, h .0, total-le f c xs (h .1), suc-mul 
 pub those-all : {A : Type 0} (p : A → Bool) (xs : List A) → All (λ x. T (p x)) xs → those p xs ≡ xs
 those-all p [] h = refl
 those-all p (x ∷ xs) h = rw (T-true (p x) (h .0), those) (ap {B = List _} (λ l. x ∷ l) (those-all p xs (h .1)))
+
+pub total-mono : {A : Type 0} (f g : A → ℕ) (xs : List A) → All (λ x. f x ≤ g x) xs → total f xs ≤ total g xs
+total-mono f g [] h = omega arith
+total-mono f g (x ∷ xs) h = omega (arith, h .0, total-mono f g xs (h .1))
+
+pub each-all : {A B : Type 0} (P : B → Type 0) (f : A → List B) (xs : List A) → All P (each f xs) → All (λ x. All P (f x)) xs
+each-all P f [] h = tt
+each-all P f (x ∷ xs) h = let s = all-append P (f x) (each f xs) .0 h in (s .0, each-all P f xs (s .1))
+
+pub any-range-ext : (p q : ℕ → Bool) (i n : ℕ) → ((j : ℕ) → i ≤ j → j < i + n → p j ≡ q j) → any p (range i n) ≡ any q (range i n)
+any-range-ext p q i zero h = refl
+any-range-ext p q i (suc n) h =
+    ap₂ (λ (x y : Bool). x || y) (h i (omega arith) (omega arith)) (any-range-ext p q (suc i) n (λ j l k. h j (omega arith) (omega arith)))

@@ -249,10 +249,6 @@ size-less a b s = size-apart (less a b) b a
 
 -- ---- whether a bit is set
 
-pub has-bit : (w e : ℕ) → has w e ≡ eqb (bit e w) 1
-unfolding has
-has-bit w e = refl
-
 pub has-one : (w e : ℕ) → has w e ≡ true → bit e w ≡ 1
 unfolding has
 has-one w e h = eqb-true (bit e w) 1 h
