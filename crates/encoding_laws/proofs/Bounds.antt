@@ -1,13 +1,12 @@
 -- "32,768 bytes hold each block; V is at most 49,152". Assumes nothing.
-use mathlib.Core.Path.{_≡_, refl, sym, ap, ap₂, _∙_, subst}
-use mathlib.Core.Logic.{_↔_}
-use mathlib.Core.Bool.{Bool, true, false, not, _&&_, _||_, cond}
+use mathlib.Core.Path.{_≡_, refl, ap, _∙_}
+use mathlib.Core.Bool.{Bool, true, false, cond}
 use mathlib.Core.List.{List, [], _∷_, _++_, map}
-use Prim.Native.Nat.{ℕ, zero, suc, _+_, _-_, _*_, _^_, _≤_, _<_}
-use native.Mathlib.Nat.{le-trans, mul-le-mul-left, mul-le-mul-right}
+use Prim.Native.Nat.{ℕ, zero, suc, _+_, _-_, _*_, _≤_, _<_}
+use native.Mathlib.Nat.{le-trans}
 use native.Mathlib.Omega.{arith}
 use native.Mathlib.Decide.{decLe}
-use lib.Dec.{T, leb, eqb, leb→le, eqb·suc-zero}
+use lib.Dec.{T, leb, leb→le, eqb·suc-zero}
 use lib.ListN.{length, getD, length-append, length-map}
 use Rattle.model.specs.declared.Literal.{Literal}
 use Rattle.model.specs.declared.Literal.the-variants.{Pos, Neg}
@@ -16,35 +15,34 @@ use Rattle.model.specs.declared.Term.the-variants.{Holds, Fails, Open}
 use Rattle.model.specs.declared.Group.{Group}
 use Rattle.model.specs.declared.Constraint.{Constraint}
 use Rattle.model.specs.declared.Model.{Model}
-use Rattle.model.specs.Lists.{every, any, each, total, range, between}
+use Rattle.model.specs.Lists.{any, each, total, range}
 use Rattle.model.specs.Limits.{limits}
-use Rattle.model.specs.Clauses.{memberCount, shortClauses, unionClauses, memberClauses, ofGroup, clausesOf}
+use Rattle.model.specs.Clauses.{shortClauses, unionClauses, memberClauses, ofGroup, clausesOf}
 use Rattle.model.specs.Model.{zeroGroup, zeroConstraint, groupAt, tableOf, constraintsOf, constraintInRange, inRange}
 use Rattle.model.specs.Propagate.{isFixpoint}
-use Rattle.model.specs.Totalizer.{holds, literals, keep, Output, up, down, formed, putIn, nodeClauses, Shape, leaf, node, shape, leaves, outputs, rootOutput, treeClauses, unit, unitClauses, totalizerClauses, clauseCountIn, treeClauseCount, outputCountIn, treeOutputCount}
+use Rattle.model.specs.Totalizer.{holds, literals, keep, up, down, formed, putIn, nodeClauses, Shape, leaf, node, shape, leaves, outputs, rootOutput, treeClauses, unit, unitClauses, totalizerClauses, clauseCountIn, treeClauseCount, outputCountIn, treeOutputCount}
 use Rattle.model.specs.Cnf.{openOf, openCount, atLeast, atMost, counted, outputsOf, firstVariable, firstOutput, variableCount, groupClauses, termOf, clausesAt, constraintClauses, blockClauses, groupClauseCount, clauseCount}
 use Rattle.model.specs.Text.{decimal, literalText, clauseText, headerText, blockText}
 use Rattle.model.specs.Assignment.{variable}
 use Rattle.model.proofs.Words.{size-le}
-use Rattle.model.proofs.Lists.{every-range, length-each, each-each, total-ext, total-map, total-append, total-const, total-le, total-mono, each-all, All, all-append, all-imp, all-map, all-make, all-range, all-each, all-at, all-getD, all-zip, every-all, range-length}
+use Rattle.model.proofs.Lists.{every-range, length-each, each-each, total-ext, total-map, total-const, total-le, total-mono, each-all, All, all-append, all-imp, all-map, all-make, all-each, all-at, all-getD, all-zip, every-all, range-length}
 use Rattle.encoding_laws.proofs.Sized.{Sized}
 use Rattle.encoding_laws.proofs.Counts.{group-length}
 use Rattle.encoding_laws.proofs.Groups.{table-length, constraints-length, group-block, constraint-block}
-use Rattle.encoding_laws.proofs.Fixpoint.{Stable, InRange, in-range, table-stable}
+use Rattle.encoding_laws.proofs.Fixpoint.{Stable, in-range, table-stable}
 use Rattle.encoding_laws.proofs.Members.{by-code, code-six, count-in}
-use Rattle.encoding_laws.proofs.Whole.{Limits, limits-of, open-lt}
-use Rattle.encoding_laws.proofs.Ranges.{In, InAll, VariablesIn, group-variables, constraint-variables}
+use Rattle.encoding_laws.proofs.Whole.{limits-of, open-lt}
+use Rattle.encoding_laws.proofs.Ranges.{In, VariablesIn, group-variables, constraint-variables}
 use Rattle.encoding_laws.proofs.Decimal.{digits-5, digits-7}
 
 -- ---- a totalizer of at most 32 leaves
 
 small-tree : (m : ℕ) → m ≤ 32 → (treeOutputCount m ≤ 160) × (treeClauseCount m ≤ 1312)
 unfolding treeOutputCount outputCountIn treeClauseCount clauseCountIn
-small-tree m h =
-    (
-      leb→le (treeOutputCount m) 160 (every-range (λ k. leb (treeOutputCount k) 160) 0 33 tt m (omega arith) (omega arith)),
-      leb→le (treeClauseCount m) 1312 (every-range (λ k. leb (treeClauseCount k) 1312) 0 33 tt m (omega arith) (omega arith)),
-    )
+small-tree m h = (
+  leb→le (treeOutputCount m) 160 (every-range (λ k. leb (treeOutputCount k) 160) 0 33 tt m (omega arith) (omega arith)),
+  leb→le (treeClauseCount m) 1312 (every-range (λ k. leb (treeClauseCount k) 1312) 0 33 tt m (omega arith) (omega arith)),
+)
 
 module _ (n : ℕ) (few : n ≤ 32) (r : Group) (s : Stable n r) where
   open-32 : openCount r ≤ 32
@@ -145,8 +143,7 @@ tree-three leaf v o = tt
 tree-three (node l r) v o =
     let w : ℕ = v + leaves l in
     let k : ℕ = o + outputs l in
-    all-append Three (treeClauses l v o ++ treeClauses r w k) (nodeClauses (rootOutput l v o) (leaves l) (rootOutput r w k) (leaves r) (k + outputs r)) .1
-    (
+    all-append Three (treeClauses l v o ++ treeClauses r w k) (nodeClauses (rootOutput l v o) (leaves l) (rootOutput r w k) (leaves r) (k + outputs r)) .1 (
       all-append Three (treeClauses l v o) (treeClauses r w k) .1 (tree-three l v o, tree-three r w k),
       node-three (rootOutput l v o) (leaves l) (rootOutput r w k) (leaves r) (k + outputs r),
     )
@@ -169,14 +166,12 @@ group-three t g = go (counted r)
 
     go : (b : Bool) → All Three (cond b (totalizerClauses (openCount r) v o (atLeast r) (atMost r)) [])
     go true =
-        all-append Three (treeClauses (shape (openCount r)) v o) (unitClauses n (openCount r) (atLeast r) (atMost r)) .1
-        (
+        all-append Three (treeClauses (shape (openCount r)) v o) (unitClauses n (openCount r) (atLeast r) (atMost r)) .1 (
           tree-three (shape (openCount r)) v o,
-          all-append Three (map (unit Pos n) (range 0 (atLeast r))) (map (unit Neg n) (range (atMost r) (openCount r - atMost r))) .1
-          (
+          all-append Three (map (unit Pos n) (range 0 (atLeast r))) (map (unit Neg n) (range (atMost r) (openCount r - atMost r))) .1 (
             all-map Three (unit Pos n) (range 0 (atLeast r)) .1 (all-make (λ i. Three (unit Pos n i)) (λ i. omega arith) (range 0 (atLeast r))),
             all-map Three (unit Neg n) (range (atMost r) (openCount r - atMost r)) .1
-            (all-make (λ i. Three (unit Neg n i)) (λ i. omega arith) (range (atMost r) (openCount r - atMost r))),
+                (all-make (λ i. Three (unit Neg n i)) (λ i. omega arith) (range (atMost r) (openCount r - atMost r))),
           ),
         )
     go false = tt
@@ -185,9 +180,9 @@ clauses-bytes : (cs : List (List Literal)) → All (All Short) cs → All Three 
 clauses-bytes cs h k =
     let e = length-each clauseText cs in
     let x =
-      total-le (λ c. length (clauseText c)) 23 cs
-      (all-imp (λ c. All Short c × Three c) (λ c. length (clauseText c) ≤ 23) (λ c p. let q = p .1 in omega (arith, clause-bytes c (p .0))) cs
-      (all-zip (All Short) Three cs h k)) in
+    total-le (λ c. length (clauseText c)) 23 cs
+    (all-imp (λ c. All Short c × Three c) (λ c. length (clauseText c) ≤ 23) (λ c p. let q = p .1 in omega (arith, clause-bytes c (p .0))) cs
+    (all-zip (All Short) Three cs h k)) in
     omega (arith, e, x)
 
 -- ---- a constraint's block
@@ -236,21 +231,21 @@ entrant-bytes t c e k h =
     let f : List Literal → List (List Literal) = λ ls. keep (map (termOf t e) ls) in
     let x = ap length (each-each clauseText f (clausesOf c)) ∙ length-each (λ ls. each clauseText (f ls)) (clausesOf c) in
     let y =
-      total-mono (λ ls. length (each clauseText (f ls))) bytesOf (clausesOf c)
-      (all-imp (λ ls. All (All Short) (f ls)) (λ ls. length (each clauseText (f ls)) ≤ bytesOf ls)
-      (λ ls q. let w = kept-bytes (map (termOf t e) ls) q in omega (arith, length-map ls (termOf t e))) (clausesOf c)
-      (each-all (All Short) f (clausesOf c) h)) in
+    total-mono (λ ls. length (each clauseText (f ls))) bytesOf (clausesOf c)
+    (all-imp (λ ls. All (All Short) (f ls)) (λ ls. length (each clauseText (f ls)) ≤ bytesOf ls)
+    (λ ls q. let w = kept-bytes (map (termOf t e) ls) q in omega (arith, length-map ls (termOf t e))) (clausesOf c)
+    (each-all (All Short) f (clausesOf c) h)) in
     omega (arith, x, y)
 
 constraint-bytes : (n : ℕ) (t : List Group) (c : Constraint) → n ≤ 32 → Modest c → All (All Short) (constraintClauses n t c)
-  → length (each clauseText (constraintClauses n t c)) ≤ 12064
+    → length (each clauseText (constraintClauses n t c)) ≤ 12064
 unfolding constraintClauses
 constraint-bytes n t c few k h =
     let x = ap length (each-each clauseText (clausesAt t c) (range 0 n)) ∙ length-each (λ e. each clauseText (clausesAt t c e)) (range 0 n) in
     let y =
-      total-le (λ e. length (each clauseText (clausesAt t c e))) 377 (range 0 n)
-      (all-imp (λ e. All (All Short) (clausesAt t c e)) (λ e. length (each clauseText (clausesAt t c e)) ≤ 377) (λ e q. entrant-bytes t c e k q) (range 0 n)
-      (each-all (All Short) (clausesAt t c) (range 0 n) h)) in
+    total-le (λ e. length (each clauseText (clausesAt t c e))) 377 (range 0 n)
+    (all-imp (λ e. All (All Short) (clausesAt t c e)) (λ e. length (each clauseText (clausesAt t c e)) ≤ 377) (λ e q. entrant-bytes t c e k q) (range 0 n)
+    (each-all (All Short) (clausesAt t c) (range 0 n) h)) in
     omega (arith, x, y, range-length 0 n)
 
 -- every clause has bytes
@@ -274,8 +269,8 @@ module _ (m : Model) (r : T (inRange m)) (fix : T (isFixpoint m)) (z : Sized m) 
       let cs = groupClauses (tableOf m) g in
       let x = clauses-bytes cs (shorts cs (group-variables m r fix z g h k)) (group-three (tableOf m) g) in
       let y =
-        clauses-1344 (m .n) (few m r fix z) (groupAt (tableOf m) g)
-        (all-at (Stable (m .n)) zeroGroup (tableOf m) (stables m r fix z) (g - 1) (omega (arith, table-length m z))) in
+      clauses-1344 (m .n) (few m r fix z) (groupAt (tableOf m) g)
+      (all-at (Stable (m .n)) zeroGroup (tableOf m) (stables m r fix z) (g - 1) (omega (arith, table-length m z))) in
       omega (arith, x, y, group-length (tableOf m) g)
 
   line-bytes : (c : Constraint) → Modest c → length (each clauseText (constraintClauses (m .n) (tableOf m) c)) ≤ 12064
@@ -296,8 +291,8 @@ module _ (m : Model) (r : T (inRange m)) (fix : T (isFixpoint m)) (z : Sized m) 
       let t = tableOf m in
       let x = total-le groupClauseCount 1344 t (all-imp (Stable (m .n)) (λ g. groupClauseCount g ≤ 1344) (clauses-1344 (m .n) (few m r fix z)) t (stables m r fix z)) in
       let y =
-        total-le (λ c. length (constraintClauses (m .n) t c)) 12064 (constraintsOf m)
-        (all-imp Modest (λ c. length (constraintClauses (m .n) t c) ≤ 12064) (λ c k. le-trans (clauses-few (constraintClauses (m .n) t c)) (line-bytes c k)) (constraintsOf m) all-modest) in
+      total-le (λ c. length (constraintClauses (m .n) t c)) 12064 (constraintsOf m)
+      (all-imp Modest (λ c. length (constraintClauses (m .n) t c) ≤ 12064) (λ c k. le-trans (clauses-few (constraintClauses (m .n) t c)) (line-bytes c k)) (constraintsOf m) all-modest) in
       omega (arith, x, y, many m r fix z, constraints-length m z, in-range m r .constraintCount)
 
   header-bytes : length (headerText m) ≤ 20
@@ -329,5 +324,5 @@ module _ (m : Model) (r : T (inRange m)) (fix : T (isFixpoint m)) (z : Sized m) 
           (omega (
             arith,
             line-bytes (getD (constraintsOf m) (suc b - m .s - 1) zeroConstraint)
-            (all-getD Modest zeroConstraint zero-modest (constraintsOf m) all-modest (suc b - m .s - 1)),
+                (all-getD Modest zeroConstraint zero-modest (constraintsOf m) all-modest (suc b - m .s - 1)),
           ))

@@ -1,29 +1,26 @@
 -- The numbers of clauses and outputs are those of document 01's formulas. Assumes nothing.
-use mathlib.Core.Path.{_≡_, refl, sym, ap, ap₂, _∙_, subst}
-use mathlib.Core.Bool.{Bool, true, false, not, cond, _||_}
+use mathlib.Core.Path.{_≡_, refl, sym, ap, ap₂, _∙_}
+use mathlib.Core.Bool.{Bool, true, false, cond, _||_}
 use mathlib.Core.List.{List, [], _∷_, _++_, map}
 use Prim.Native.Nat.{ℕ, zero, suc, _+_, _*_, _-_, _/_, _≤_, _<_}
-use native.Mathlib.Nat.{add-zero, zero-add, le-refl}
+use native.Mathlib.Nat.{add-zero, le-refl}
 use native.Mathlib.Omega.{arith}
 use native.Mathlib.Decide.{decLe, decLt}
-use lib.Dec.{T, leb, ltb, le→leb}
+use lib.Dec.{leb, ltb, le→leb}
 use lib.Arith.{lt→nleb}
-use lib.ListN.{length, getD, length-append, length-map, length-take}
+use lib.ListN.{length, length-append, length-map}
 use Rattle.model.specs.declared.Literal.{Literal}
 use Rattle.model.specs.declared.Literal.the-variants.{Pos, Neg}
 use Rattle.model.specs.declared.Term.{Term}
 use Rattle.model.specs.declared.Term.the-variants.{Holds, Fails, Open}
 use Rattle.model.specs.declared.Group.{Group}
-use Rattle.model.specs.declared.Constraint.{Constraint}
-use Rattle.model.specs.declared.Model.{Model}
-use Rattle.model.specs.Lists.{any, each, total, range}
-use Rattle.model.specs.Model.{groupAt, tableOf, constraintsOf, zeroGroup, zeroConstraint}
-use Rattle.model.specs.Totalizer.{oppositeTerm, holds, literals, keep, Output, up, down, formed, output, putIn, nodeClauses, Shape, leaf, node, shapeIn, shape, leaves, outputs, rootOutput, treeClauses, unit, unitClauses, totalizerClauses, clauseCountIn, treeClauseCount, outputCountIn, treeOutputCount}
-use Rattle.model.specs.Cnf.{openCount, atLeast, atMost, counted, firstVariable, firstOutput, groupClauses, constraintClauses, blockClauses, clauses, groupClauseCount, clauseCount}
-use Rattle.model.proofs.Lists.{T-true, T-false, length-each, each-each, range-append, range-length, total-ext, total-map, total-add, total-append, total-const, total-but-one, places}
+use Rattle.model.specs.Lists.{each, total, range}
+use Rattle.model.specs.Model.{groupAt}
+use Rattle.model.specs.Totalizer.{oppositeTerm, holds, literals, keep, Output, up, down, formed, output, putIn, nodeClauses, Shape, node, shapeIn, shape, leaves, outputs, rootOutput, treeClauses, unit, unitClauses, totalizerClauses, clauseCountIn, treeClauseCount, outputCountIn, treeOutputCount}
+use Rattle.model.specs.Cnf.{openCount, atLeast, atMost, counted, firstVariable, firstOutput, groupClauses, groupClauseCount}
+use Rattle.model.proofs.Lists.{T-true, T-false, length-each, each-each, range-length, total-ext, total-add, total-const, total-but-one}
 use Rattle.encoding_laws.proofs.Node.{output-in, output-out}
 use Rattle.encoding_laws.proofs.Totalizer.{shapeIn-step, shapeIn-one, leaves-shapeIn, leaves-shape, shape-step}
-use Rattle.encoding_laws.proofs.Sized.{Sized}
 
 -- ---- a node: every clause but two is kept
 
@@ -55,7 +52,7 @@ loose f m (suc i) h = go (ltb i m)
 
 -- ones in m rows of n, but for one place
 square : (f : ℕ → ℕ → ℕ) (m n k l : ℕ) → k < m → l < n → f k l ≡ 0
-  → ((p q : ℕ) → p < m → q < n → (p ≡ k → q ≡ l → ⊥) → f p q ≡ 1) → suc (total (λ p. total (f p) (range 0 n)) (range 0 m)) ≡ m * n
+    → ((p q : ℕ) → p < m → q < n → (p ≡ k → q ≡ l → ⊥) → f p q ≡ 1) → suc (total (λ p. total (f p) (range 0 n)) (range 0 m)) ≡ m * n
 square f m n k l hk hl z h =
     total-but-one (λ p. total (f p) (range 0 n)) n k 0 m (omega arith) (omega arith)
     (total-but-one (f k) 1 l 0 n (omega arith) (omega arith) (ap suc z) (λ j a b d. h k j (omega arith) (omega arith) (λ _ e. d e)) ∙ omega arith)
@@ -117,16 +114,16 @@ module _ (c a d b o : ℕ) where
   pub node-length : length (nodeClauses c a d b o) ≡ 2 * (suc a * suc b) - 2
   node-length =
       let split : total (λ p. total (λ q. ups p q + downs p q) (range 0 (suc b))) (range 0 (suc a))
-        ≡ total (λ p. total (ups p) (range 0 (suc b))) (range 0 (suc a)) + total (λ p. total (downs p) (range 0 (suc b))) (range 0 (suc a)) =
-        total-ext (λ p. total (λ q. ups p q + downs p q) (range 0 (suc b))) (λ p. total (ups p) (range 0 (suc b)) + total (downs p) (range 0 (suc b)))
-        (λ p. total-add (ups p) (downs p) (range 0 (suc b))) (range 0 (suc a))
-        ∙ total-add (λ p. total (ups p) (range 0 (suc b))) (λ p. total (downs p) (range 0 (suc b))) (range 0 (suc a)) in
+      ≡ total (λ p. total (ups p) (range 0 (suc b))) (range 0 (suc a)) + total (λ p. total (downs p) (range 0 (suc b))) (range 0 (suc a)) =
+      total-ext (λ p. total (λ q. ups p q + downs p q) (range 0 (suc b))) (λ p. total (ups p) (range 0 (suc b)) + total (downs p) (range 0 (suc b)))
+      (λ p. total-add (ups p) (downs p) (range 0 (suc b))) (range 0 (suc a))
+      ∙ total-add (λ p. total (ups p) (range 0 (suc b))) (λ p. total (downs p) (range 0 (suc b))) (range 0 (suc a)) in
       omega (arith, node-total, split, ups-count, downs-count)
 
 -- ---- a tree
 
 clauseCountIn-step : (f m : ℕ) → 2 ≤ m
-  → clauseCountIn (suc f) m ≡ clauseCountIn f (m / 2) + clauseCountIn f (m - m / 2) + 2 * ((m / 2 + 1) * (m - m / 2 + 1)) - 2
+    → clauseCountIn (suc f) m ≡ clauseCountIn f (m / 2) + clauseCountIn f (m - m / 2) + 2 * ((m / 2 + 1) * (m - m / 2 + 1)) - 2
 unfolding clauseCountIn
 clauseCountIn-step f m h = rw (T-false (leb m 1) (lt→nleb m 1 h))
 
@@ -145,8 +142,8 @@ outputCountIn-one zero m h = refl
 outputCountIn-one (suc f) m h = rw (T-true (leb m 1) (le→leb m 1 h))
 
 node-total-length : (l r : Shape) (v o : ℕ)
-  → length (treeClauses (node l r) v o)
-  ≡ length (treeClauses l v o) + length (treeClauses r (v + leaves l) (o + outputs l)) + (2 * (suc (leaves l) * suc (leaves r)) - 2)
+    → length (treeClauses (node l r) v o)
+    ≡ length (treeClauses l v o) + length (treeClauses r (v + leaves l) (o + outputs l)) + (2 * (suc (leaves l) * suc (leaves r)) - 2)
 unfolding treeClauses
 node-total-length l r v o =
     let w : ℕ = v + leaves l in
@@ -166,9 +163,9 @@ length-treeIn (suc f) m v o h =
     go (decLe 2 m) (λ v o l. length-treeIn f (m / 2) v o l) (λ v o l. length-treeIn f (m - m / 2) v o l)
   where
     go : Dec (2 ≤ m)
-      → ((v o : ℕ) → m / 2 ≤ f → length (treeClauses (shapeIn f (m / 2)) v o) ≡ clauseCountIn f (m / 2))
-      → ((v o : ℕ) → m - m / 2 ≤ f → length (treeClauses (shapeIn f (m - m / 2)) v o) ≡ clauseCountIn f (m - m / 2))
-      → length (treeClauses (shapeIn (suc f) m) v o) ≡ clauseCountIn (suc f) m
+        → ((v o : ℕ) → m / 2 ≤ f → length (treeClauses (shapeIn f (m / 2)) v o) ≡ clauseCountIn f (m / 2))
+        → ((v o : ℕ) → m - m / 2 ≤ f → length (treeClauses (shapeIn f (m - m / 2)) v o) ≡ clauseCountIn f (m - m / 2))
+        → length (treeClauses (shapeIn (suc f) m) v o) ≡ clauseCountIn (suc f) m
     go (yes h2) l r =
         let a = shapeIn f (m / 2) in
         let b = shapeIn f (m - m / 2) in
@@ -190,7 +187,7 @@ outputs-in zero m h = rw (shapeIn-one zero m (omega arith), outputCountIn-one ze
 outputs-in (suc f) m h = go (decLe 2 m) (outputs-in f (m / 2)) (outputs-in f (m - m / 2))
   where
     go : Dec (2 ≤ m) → (m / 2 ≤ f → outputs (shapeIn f (m / 2)) ≡ outputCountIn f (m / 2))
-      → (m - m / 2 ≤ f → outputs (shapeIn f (m - m / 2)) ≡ outputCountIn f (m - m / 2)) → outputs (shapeIn (suc f) m) ≡ outputCountIn (suc f) m
+        → (m - m / 2 ≤ f → outputs (shapeIn f (m - m / 2)) ≡ outputCountIn f (m - m / 2)) → outputs (shapeIn (suc f) m) ≡ outputCountIn (suc f) m
     go (yes h2) l r =
         rw (shapeIn-step f m h2, outputCountIn-step f m h2)
         (omega (
@@ -208,7 +205,7 @@ outputs-count m = outputs-in m m (le-refl m)
 
 -- "T(m) = T(left) + T(right) + 2(a+1)(b+1) - 2", "A(m) = m + A(left) + A(right)"; both are 0 for a size of 1
 pub clause-count-step : (m : ℕ) → 2 ≤ m
-  → treeClauseCount m ≡ treeClauseCount (m / 2) + treeClauseCount (m - m / 2) + 2 * ((m / 2 + 1) * (m - m / 2 + 1)) - 2
+    → treeClauseCount m ≡ treeClauseCount (m / 2) + treeClauseCount (m - m / 2) + 2 * ((m / 2 + 1) * (m - m / 2 + 1)) - 2
 clause-count-step m h =
     let a = shape (m / 2) in
     let b = shape (m - m / 2) in
@@ -262,7 +259,7 @@ group-length t g = go (counted (groupAt t g))
     r = groupAt t g
 
     go : (b : Bool)
-      → length (cond b (totalizerClauses (openCount r) (firstVariable t g) (firstOutput t g) (atLeast r) (atMost r)) [])
-      ≡ cond b (treeClauseCount (openCount r) + atLeast r + (openCount r - atMost r)) 0
+        → length (cond b (totalizerClauses (openCount r) (firstVariable t g) (firstOutput t g) (atLeast r) (atMost r)) [])
+        ≡ cond b (treeClauseCount (openCount r) + atLeast r + (openCount r - atMost r)) 0
     go true = totalizer-length (openCount r) (firstVariable t g) (firstOutput t g) (atLeast r) (atMost r)
     go false = refl

@@ -1,15 +1,14 @@
 -- Decimal numbers read back. Assumes nothing.
-use mathlib.Core.Path.{_≡_, refl, sym, ap, ap₂, _∙_, subst}
-use mathlib.Core.Logic.{_↔_}
-use mathlib.Core.Bool.{Bool, true, false, not, _&&_, cond}
-use mathlib.Core.List.{List, [], _∷_, _++_, append-nil}
-use mathlib.Core.Option.{Option, none, some}
+use mathlib.Core.Path.{_≡_, refl, sym, ap, _∙_, subst}
+use mathlib.Core.Bool.{Bool, true, false, _&&_, cond}
+use mathlib.Core.List.{List, [], _∷_, _++_}
+use mathlib.Core.Option.{none, some}
 use Prim.Native.Nat.{ℕ, zero, suc, _+_, _-_, _*_, _/_, _%_, _≤_, _<_}
 use native.Mathlib.Nat.{le-trans, le-of-eq}
 use native.Mathlib.Omega.{arith}
 use native.Mathlib.Decide.{decLt}
 use borrow.Author.Tests.{lt-ltb, le-ltb, le-leb, ne-eqb}
-use lib.Dec.{T, leb, ltb, eqb}
+use lib.Dec.{leb, ltb, eqb}
 use lib.ListN.{length, getD, length-append, List·getD-append}
 use Rattle.model.specs.Lists.{between, isEmpty}
 use Rattle.model.specs.Sheet.{digitsAfter, numberOf}
@@ -27,8 +26,8 @@ digits-more p v h = rw (le-ltb v 10 h, digits)
 
 -- what holds of the digits of one digit, and of more where it holds of those before the last
 by-digits : (P : ℕ → List ℕ → Type 0) → ((v : ℕ) → v < 10 → P v ((48 + v) ∷ []))
-  → ((v : ℕ) (ds : List ℕ) → 10 ≤ v → P (v / 10) ds → P v (ds ++ ((48 + v % 10) ∷ [])))
-  → (v : ℕ) → P v (decimal v)
+    → ((v : ℕ) (ds : List ℕ) → 10 ≤ v → P (v / 10) ds → P v (ds ++ ((48 + v % 10) ∷ [])))
+    → (v : ℕ) → P v (decimal v)
 unfolding decimal
 by-digits P one more v = go (suc v) v (omega arith)
   where
@@ -57,7 +56,7 @@ read-append [] ys u w h = ap (λ (x : ℕ). digitsAfter x ys) (some-eq h)
 read-append (x ∷ xs) ys u w h = go (between 48 57 x) (read-append xs ys (u * 10 + (x - 48)) w) h
   where
     go : (b : Bool) → (digitsAfter (u * 10 + (x - 48)) xs ≡ some w → digitsAfter (u * 10 + (x - 48)) (xs ++ ys) ≡ digitsAfter w ys)
-      → cond b (digitsAfter (u * 10 + (x - 48)) xs) none ≡ some w → cond b (digitsAfter (u * 10 + (x - 48)) (xs ++ ys)) none ≡ digitsAfter w ys
+        → cond b (digitsAfter (u * 10 + (x - 48)) xs) none ≡ some w → cond b (digitsAfter (u * 10 + (x - 48)) (xs ++ ys)) none ≡ digitsAfter w ys
     go true ih e = ih e
     go false ih e = absurd (let z : _≡_ {A = ℕ} 0 1 = cc in omega arith)
 
@@ -80,9 +79,10 @@ decimal-some = by-digits (λ v ds. 0 < length ds) (λ v h. omega arith) (λ v ds
 decimal-first : (v : ℕ) → 1 ≤ v → 49 ≤ getD (decimal v) 0 0
 decimal-first =
     λ v h. by-digits (λ v ds. (0 < length ds) × (1 ≤ v → 49 ≤ getD ds 0 0)) (λ v l. (omega arith, λ k. omega arith))
-    (λ v ds l e. let some = e .0 in
-    (omega (arith, length-append ds ((48 + v % 10) ∷ [])),
-    λ k. rw (List·getD-append ds ((48 + v % 10) ∷ []) 0 0 some) (e .1 (omega arith)))) v .1 h
+    (λ v ds l e. let some = e .0 in (
+      omega (arith, length-append ds ((48 + v % 10) ∷ [])),
+      λ k. rw (List·getD-append ds ((48 + v % 10) ∷ []) 0 0 some) (e .1 (omega arith)),
+    )) v .1 h
 
 decimal-one : (v : ℕ) → v < 10 → length (decimal v) ≡ 1
 unfolding decimal

@@ -1,14 +1,13 @@
 -- In a table that a pass leaves unchanged no rule changes anything. Assumes nothing.
-use mathlib.Core.Path.{_≡_, refl, sym, ap, ap₂, _∙_, subst}
-use mathlib.Core.Logic.{_↔_}
+use mathlib.Core.Path.{_≡_, refl, ap, ap₂, _∙_, subst}
 use mathlib.Core.Bool.{Bool, true, false, cond, _&&_}
 use mathlib.Core.List.{List, [], _∷_, _++_, map, head-eq-of-cons-eq, tail-eq-of-cons-eq}
-use Prim.Native.Nat.{ℕ, zero, suc, _+_, _-_, _^_, _≤_, _<_, min, max}
+use Prim.Native.Nat.{ℕ, zero, suc, _-_, _^_, _≤_, _<_, min, max}
 use native.Mathlib.Nat.{le-refl, le-trans, le-antisymm}
 use native.Mathlib.Omega.{arith}
 use lib.Dec.{T, leb, ltb, eqb, leb→le, ltb→lt, eqb→eq}
 use lib.Bits.{bitAnd, bitOr}
-use lib.ListN.{length, getD, length-take}
+use lib.ListN.{length, length-take}
 use Rattle.model.specs.declared.Literal.{Literal}
 use Rattle.model.specs.declared.Literal.the-variants.{Pos, Neg}
 use Rattle.model.specs.declared.Group.{Group}
@@ -16,11 +15,11 @@ use Rattle.model.specs.declared.Constraint.{Constraint}
 use Rattle.model.specs.declared.Model.{Model}
 use Rattle.model.specs.Lists.{every, pairwise, range, onPlace, between}
 use Rattle.model.specs.Limits.{limits}
-use Rattle.model.specs.Words.{full, less, size, inside}
+use Rattle.model.specs.Words.{full, size, inside}
 use Rattle.model.specs.Clauses.{clausesOf}
 use Rattle.model.specs.Model.{tableOf, constraintsOf, groupInRange, constraintInRange, inRange}
-use Rattle.model.specs.Propagate.{limited, cut, filled, groupRule, allFalse, fixedWith, possibleWithout, madeTrue, literalRule, run, clauseRules, clauseRule, constraintRule, groupRuleAt, rules, pass, groupConsistent, consistent, sameGroup, sameTable, isFixpoint}
-use Rattle.model.proofs.Words.{Sub, sub-refl, sub-trans, sub-antisym, sub-or-l, sub-and-l, sub-less, inside-sub, size-mono}
+use Rattle.model.specs.Propagate.{limited, cut, filled, groupRule, allFalse, fixedWith, possibleWithout, madeTrue, literalRule, run, clauseRules, clauseRule, constraintRule, groupRuleAt, rules, pass, consistent, sameGroup, sameTable, isFixpoint}
+use Rattle.model.proofs.Words.{Sub, sub-refl, sub-trans, sub-antisym, sub-or-l, sub-and-l, sub-less, inside-sub}
 use Rattle.model.proofs.Lists.{and-left, and-right, All, all-append, all-imp, all-zip, all-map, all-make, every-all, range-all}
 
 -- ---- what a pass may do to a table: each group only narrows
@@ -136,10 +135,9 @@ constraint-narrows n c = run-narrows (map (clauseRule n) (clausesOf c)) (clauses
 rules-narrow : (n s : ℕ) (cs : List Constraint) → All Narrows (rules n s cs)
 unfolding rules groupRuleAt
 rules-narrow n s cs =
-    all-append Narrows (map groupRuleAt (range 1 s)) (map (constraintRule n) cs) .1
-    (
+    all-append Narrows (map groupRuleAt (range 1 s)) (map (constraintRule n) cs) .1 (
       all-map Narrows groupRuleAt (range 1 s) .1
-      (all-make (λ g. Narrows (groupRuleAt g)) (λ g. place-narrows (g - 1) groupRule group-narrows) (range 1 s)),
+          (all-make (λ g. Narrows (groupRuleAt g)) (λ g. place-narrows (g - 1) groupRule group-narrows) (range 1 s)),
       all-map Narrows (constraintRule n) cs .1 (all-make (λ c. Narrows (constraintRule n c)) (constraint-narrows n) cs),
     )
 

@@ -1,12 +1,10 @@
 -- The clauses of the listing as those of the groups and those of the constraints, and the groups' numbering from one to the next. Assumes nothing.
-use mathlib.Core.Path.{_≡_, refl, sym, ap, ap₂, _∙_, subst}
-use mathlib.Core.Bool.{Bool, true, false, cond}
+use mathlib.Core.Path.{_≡_, refl, sym, ap, ap₂, _∙_}
 use mathlib.Core.List.{List, [], _∷_, _++_, map}
-use Prim.Native.Nat.{ℕ, zero, suc, _+_, _-_, _≤_, _<_}
+use Prim.Native.Nat.{ℕ, _+_, _-_, _≤_, _<_}
 use native.Mathlib.Nat.{add-zero, zero-add, suc-add, add-assoc}
 use native.Mathlib.Omega.{arith}
 use borrow.Author.Tests.{le-leb, lt-leb}
-use lib.Dec.{leb}
 use lib.ListN.{length, getD, take, length-append, length-take}
 use Rattle.model.specs.declared.Literal.{Literal}
 use Rattle.model.specs.declared.Group.{Group}
@@ -33,7 +31,7 @@ module _ (m : Model) (z : Sized m) where
   group-block b h = rw (le-leb b (m .s) h)
 
   pub constraint-block : (b : ℕ) → m .s < b
-    → blockClauses m b ≡ constraintClauses (m .n) (tableOf m) (getD (constraintsOf m) (b - m .s - 1) zeroConstraint)
+      → blockClauses m b ≡ constraintClauses (m .n) (tableOf m) (getD (constraintsOf m) (b - m .s - 1) zeroConstraint)
   unfolding blockClauses
   constraint-block b h = rw (lt-leb b (m .s) h)
 
@@ -95,7 +93,7 @@ module _ {B : Type 0} (F : Group → ℕ → ℕ → B) where
       ∙ from-first rs (v + openCount r) (o + outputsOf r))
 
   pub numbered : (t : List Group)
-    → map (λ g. F (groupAt t g) (firstVariable t g) (firstOutput t g)) (range 1 (length t)) ≡ overGroups F t 1 (1 + total openCount t)
+      → map (λ g. F (groupAt t g) (firstVariable t g) (firstOutput t g)) (range 1 (length t)) ≡ overGroups F t 1 (1 + total openCount t)
   unfolding groupAt firstVariable firstOutput from
   numbered t =
       values-make (λ g. F (groupAt t g) (firstVariable t g) (firstOutput t g)) (from t 1 (1 + total openCount t)) 1 0 (length t)

@@ -1,8 +1,8 @@
 -- A code's clauses hold for an entrant exactly where its meaning does, and the meaning of the sets is that for every entrant. Assumes nothing.
-use mathlib.Core.Path.{_≡_, refl, sym, ap, ap₂, _∙_, subst}
-use mathlib.Core.Bool.{Bool, true, false, not, _&&_, _||_, cond, Bool·beq}
+use mathlib.Core.Path.{_≡_, refl, sym, ap, ap₂, _∙_}
+use mathlib.Core.Bool.{Bool, true, false, not, _&&_, _||_, Bool·beq}
 use mathlib.Core.List.{List, [], _∷_, _++_, map}
-use Prim.Native.Nat.{ℕ, zero, suc, _+_, _-_, _^_, _≤_, _<_, max, min}
+use Prim.Native.Nat.{ℕ, suc, _-_, _^_, _≤_, _<_}
 use native.Mathlib.Nat.{zero-add, suc-add}
 use native.Mathlib.Omega.{arith}
 use native.Mathlib.Decide.{decLt}
@@ -15,8 +15,8 @@ use Rattle.model.specs.Lists.{every, any, range, between}
 use Rattle.model.specs.Words.{less, bit, has, inside}
 use Rattle.model.specs.Clauses.{memberCount, shortClauses, unionClauses, memberClauses}
 use Rattle.model.specs.Solution.{union, meaning}
-use Rattle.model.proofs.Words.{bit-ext, bit-past, bit-le, bit-and, bit-or, bit-less, bit-zero, Sub, inside-sub, sub-inside, has-one, has-none, one-has, has-and, has-or, has-less, has-zero}
-use Rattle.model.proofs.Lists.{T-ext, T-true, or-assoc, every-range, range-every, every-ext, any-range-ext, any-map, values-make, places, All, all-getD}
+use Rattle.model.proofs.Words.{bit-ext, bit-past, bit-le, bit-and, bit-or, bit-less, bit-zero, inside-sub, sub-inside, has-one, has-none, one-has, has-and, has-or, has-less, has-zero}
+use Rattle.model.proofs.Lists.{T-ext, or-assoc, every-range, range-every, every-ext, any-range-ext, any-map, values-make, places, All, all-getD}
 use Rattle.encoding_laws.proofs.Members.{by-code}
 
 -- ---- one entrant: member i holds him where b i does
@@ -217,7 +217,7 @@ module _ (n : ℕ) (ws : List ℕ) (small : All (λ w. w < 2 ^ n) ws) (pos : 0 <
       go (x ∷ xs) h = h .1
 
   pub meaning-words : (code k : ℕ) → T (between 1 6 code) → (code ≡ 6 → length ws ≡ suc k)
-    → meaning code ws ≡ every (λ e. meaningAt code k (λ i. has (getD ws i 0) e)) (range 0 n)
+      → meaning code ws ≡ every (λ e. meaningAt code k (λ i. has (getD ws i 0) e)) (range 0 n)
   unfolding meaning meaningAt at
   meaning-words code k t =
       by-code (λ code. (code ≡ 6 → length ws ≡ suc k) → meaning code ws ≡ every (λ e. meaningAt code k (λ i. has (getD ws i 0) e)) (range 0 n))

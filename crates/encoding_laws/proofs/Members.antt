@@ -1,12 +1,11 @@
 -- The members that a constraint's clauses speak of: each stands in the constraint's list, each is a group of the table. Assumes nothing.
-use mathlib.Core.Path.{_≡_, refl, sym, ap, ap₂, _∙_, subst}
-use mathlib.Core.Logic.{_↔_}
-use mathlib.Core.Bool.{Bool, true, false, not, cond, _&&_, _||_}
+use mathlib.Core.Path.{_≡_, refl, _∙_, subst}
+use mathlib.Core.Bool.{not, _&&_, _||_}
 use mathlib.Core.List.{List, [], _∷_, _++_, map}
 use Prim.Native.Nat.{ℕ, zero, suc, _+_, _-_, _≤_, _<_}
 use native.Mathlib.Omega.{arith}
 use lib.Dec.{T, leb, eqb, leb→le}
-use lib.ListN.{length, getD, take, length-take}
+use lib.ListN.{length, getD, length-take}
 use lib.Seq.{getD-take}
 use Rattle.model.specs.declared.Literal.{Literal}
 use Rattle.model.specs.declared.Literal.the-variants.{Pos, Neg}
@@ -45,18 +44,16 @@ members-clear code k t =
     ((tt, (omega arith, (omega arith, tt))), tt)
     ((tt, (omega arith, (omega arith, (omega arith, tt)))), ((tt, (omega arith, (omega arith, tt))), ((tt, (omega arith, (omega arith, tt))), tt)))
     ((tt, (omega arith, (omega arith, (omega arith, tt)))), ((tt, (omega arith, (omega arith, tt))), ((tt, (omega arith, (omega arith, tt))), tt)))
-    ((tt, (omega arith, (omega arith, (omega arith, tt)))), ((tt, (omega arith, (omega arith, tt))), ((tt, (omega arith, (omega arith, tt))), tt)))
-    (
+    ((tt, (omega arith, (omega arith, (omega arith, tt)))), ((tt, (omega arith, (omega arith, tt))), ((tt, (omega arith, (omega arith, tt))), tt))) (
       (
         not-empty (map Pos (range 1 k)) (Neg 0),
-        all-append (λ l. variable l < k + 1) (map Pos (range 1 k)) (Neg 0 ∷ []) .1
-        (
+        all-append (λ l. variable l < k + 1) (map Pos (range 1 k)) (Neg 0 ∷ []) .1 (
           all-map (λ l. variable l < k + 1) Pos (range 1 k) .1 (all-range (λ i. i < k + 1) 1 k (λ j l h. omega arith)),
           (omega arith, tt),
         ),
       ),
       all-map (Clear (k + 1)) (λ i. Neg i ∷ Pos 0 ∷ []) (range 1 k) .1
-      (all-range (λ i. Clear (k + 1) (Neg i ∷ Pos 0 ∷ [])) 1 k (λ j l h. (tt, (omega arith, (omega arith, tt))))),
+          (all-range (λ i. Clear (k + 1) (Neg i ∷ Pos 0 ∷ [])) 1 k (λ j l h. (tt, (omega arith, (omega arith, tt))))),
     )
     code t
   where

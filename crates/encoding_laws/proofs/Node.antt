@@ -1,20 +1,19 @@
 -- A node's clauses hold exactly when its outputs are the unary count of its halves' together. Assumes nothing.
-use mathlib.Core.Path.{_≡_, refl, sym, ap, _∙_, subst}
+use mathlib.Core.Path.{_≡_, sym, ap, _∙_, subst}
 use mathlib.Core.Logic.{_↔_}
-use mathlib.Core.Bool.{Bool, true, false, not, _&&_, _||_, cond}
-use mathlib.Core.List.{List, [], _∷_, _++_, map}
+use mathlib.Core.Bool.{Bool, true, false, not, _&&_, _||_}
+use mathlib.Core.List.{List, [], _∷_}
 use Prim.Native.Nat.{ℕ, zero, suc, _+_, _-_, _≤_, _<_, min}
 use native.Mathlib.Omega.{arith}
 use native.Mathlib.Decide.{decLt}
 use lib.Dec.{T, leb, ltb, leb→le, le→leb, ltb→lt, lt→ltb, nleb→lt, leb·zero, T-not}
 use lib.Arith.{lt→nleb, le→nltb}
-use Rattle.model.specs.declared.Literal.{Literal}
-use Rattle.model.specs.declared.Literal.the-variants.{Pos, Neg}
+use Rattle.model.specs.declared.Literal.the-variants.{Pos}
 use Rattle.model.specs.declared.Term.{Term}
-use Rattle.model.specs.declared.Term.the-variants.{Holds, Fails, Open}
+use Rattle.model.specs.declared.Term.the-variants.{Fails, Open}
 use Rattle.model.specs.Lists.{every, any, each, range}
-use Rattle.model.specs.Totalizer.{oppositeTerm, keep, Output, up, down, formed, output, putIn, nodeClauses}
-use Rattle.model.specs.Close.{truth, termTrue, clauseTrue}
+use Rattle.model.specs.Totalizer.{Output, up, down, formed, output, putIn, nodeClauses}
+use Rattle.model.specs.Close.{truth, termTrue}
 use Rattle.model.proofs.Lists.{T-ext, T-true, T-false, every-each, every-ext, every-range, range-every}
 use Rattle.encoding_laws.proofs.Truth.{allTrue, T-and, opposite-true, kept-true}
 
@@ -93,7 +92,7 @@ module _ (a : List Bool) (c left d right o x y : ℕ) (hx : x ≤ left) (hy : y 
   unfolding pairTrue
   cell t p q hp hq =
       let row : T (every (pairTrue p) (range 0 (suc right))) =
-        every-range (λ p. every (pairTrue p) (range 0 (suc right))) 0 (suc left) (subst T (nodeTrue ∙ formedTrue) t) p (omega arith) (omega arith) in
+      every-range (λ p. every (pairTrue p) (range 0 (suc right))) 0 (suc left) (subst T (nodeTrue ∙ formedTrue) t) p (omega arith) (omega arith) in
       let s = T-and (holdsIn (up p q)) (holdsIn (down p q) && true) .0 (every-range (pairTrue p) 0 (suc right) row q (omega arith) (omega arith)) in
       (s .0, T-and (holdsIn (down p q)) true .0 (s .1) .0)
 
@@ -120,8 +119,8 @@ module _ (a : List Bool) (c left d right o x y : ℕ) (hx : x ≤ left) (hy : y 
           let q : ℕ = suc i - p in
           let e : p + q ≡ suc i = omega arith in
           let u : T (N (p + q)) =
-            up-iff (leb p x) (leb q y) (N (p + q)) .0 (rw (up-eq p q) at (cell t p q (omega arith) (omega arith) .0))
-            (le→leb p x (omega arith)) (le→leb q y (omega arith)) in
+          up-iff (leb p x) (leb q y) (N (p + q)) .0 (rw (up-eq p q) at (cell t p q (omega arith) (omega arith) .0))
+          (le→leb p x (omega arith)) (le→leb q y (omega arith)) in
           subst T (ap N e ∙ value) u
 
       high : T (truth a (o + i)) → T (ltb i (x + y))
@@ -134,19 +133,20 @@ module _ (a : List Bool) (c left d right o x y : ℕ) (hx : x ≤ left) (hy : y 
               let q : ℕ = i - p in
               let e : p + q ≡ i = omega arith in
               let u : T (not (N (suc (p + q)))) =
-                down-iff (leb (suc p) x) (leb (suc q) y) (N (suc (p + q))) .0 (rw (down-eq p q) at (cell t p q (omega arith) (omega arith) .1))
-                (lt→nleb (suc p) x (omega arith)) (lt→nleb (suc q) y (omega arith)) in
+              down-iff (leb (suc p) x) (leb (suc q) y) (N (suc (p + q))) .0 (rw (down-eq p q) at (cell t p q (omega arith) (omega arith) .1))
+              (lt→nleb (suc p) x (omega arith)) (lt→nleb (suc q) y (omega arith)) in
               absurd (T-not (truth a (o + i)) (subst (λ b. T (not b)) (ap (λ k. N (suc k)) e ∙ value) u) v)
 
   pub node← : Unary a o (left + right) (x + y) → T (allTrue a (nodeClauses c left d right o))
   unfolding N
   node← u = cells (λ p q hp hq. (
-      rw (up-eq p q, value (p + q))
-      (up-iff (leb p x) (leb q y) (leb (p + q) (x + y)) .1
-      (λ s t. let s′ = leb→le p x s in let t′ = leb→le q y t in le→leb (p + q) (x + y) (omega arith))),
-      rw (down-eq p q, value (suc (p + q)))
-      (down-iff (leb (suc p) x) (leb (suc q) y) (leb (suc (p + q)) (x + y)) .1
-      (λ s t. let s′ = nleb→lt (suc p) x s in let t′ = nleb→lt (suc q) y t in lt→nleb (suc (p + q)) (x + y) (omega arith)))))
+    rw (up-eq p q, value (p + q))
+        (up-iff (leb p x) (leb q y) (leb (p + q) (x + y)) .1
+        (λ s t. let s′ = leb→le p x s in let t′ = leb→le q y t in le→leb (p + q) (x + y) (omega arith))),
+    rw (down-eq p q, value (suc (p + q)))
+        (down-iff (leb (suc p) x) (leb (suc q) y) (leb (suc (p + q)) (x + y)) .1
+        (λ s t. let s′ = nleb→lt (suc p) x s in let t′ = nleb→lt (suc q) y t in lt→nleb (suc (p + q)) (x + y) (omega arith))),
+  ))
     where
       value : (r : ℕ) → N r ≡ leb r (x + y)
       value r = output-true a o (left + right) (x + y) (omega arith) u r

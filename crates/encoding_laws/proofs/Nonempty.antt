@@ -1,13 +1,12 @@
 -- At a fixpoint no constraint clause loses its last literal, so that refusal 29 cannot follow 22. Assumes nothing.
-use mathlib.Core.Path.{_≡_, refl, sym, ap, ap₂, _∙_, subst}
-use mathlib.Core.Logic.{_↔_}
-use mathlib.Core.Bool.{Bool, true, false, not, cond, _&&_, _||_}
-use mathlib.Core.List.{List, [], _∷_, _++_, map}
-use Prim.Native.Nat.{ℕ, zero, suc, _+_, _-_, _≤_, _<_, min, max}
+use mathlib.Core.Path.{_≡_, refl, sym, ap, _∙_}
+use mathlib.Core.Bool.{Bool, true, false, not, cond, _&&_}
+use mathlib.Core.List.{List, [], _∷_, map}
+use Prim.Native.Nat.{ℕ, _-_, _<_}
 use native.Mathlib.Omega.{arith}
 use borrow.Author.Tests.{ltb-true}
-use lib.Dec.{T, leb, ltb, eqb}
-use lib.Bits.{bitAnd, bitOr}
+use lib.Dec.{T, ltb}
+use lib.Bits.{bitOr}
 use lib.ListN.{length, getD}
 use Rattle.model.specs.declared.Literal.{Literal}
 use Rattle.model.specs.declared.Literal.the-variants.{Pos, Neg}
@@ -16,17 +15,17 @@ use Rattle.model.specs.declared.Term.the-variants.{Holds, Fails, Open}
 use Rattle.model.specs.declared.Group.{Group}
 use Rattle.model.specs.declared.Constraint.{Constraint}
 use Rattle.model.specs.declared.Model.{Model}
-use Rattle.model.specs.Lists.{any, each, range, onPlace, isEmpty}
+use Rattle.model.specs.Lists.{any, range, isEmpty}
 use Rattle.model.specs.Words.{full, less, bit, has}
-use Rattle.model.specs.Clauses.{memberCount, memberClauses, shortClauses, unionClauses, ofGroup, clausesOf}
+use Rattle.model.specs.Clauses.{memberCount, memberClauses, shortClauses, ofGroup, clausesOf}
 use Rattle.model.specs.Model.{zeroGroup, zeroConstraint, groupAt, tableOf, constraintsOf, constraintInRange, inRange}
 use Rattle.model.specs.Propagate.{falseIn, allFalse, fixedWith, possibleWithout, madeTrue, literalRule, clauseRule, isFixpoint}
 use Rattle.model.specs.Totalizer.{oppositeTerm, holds, literals, keep}
 use Rattle.model.specs.Cnf.{membership, termOf, variableOf, clausesAt, constraintClauses, blockClauses}
 use Rattle.model.specs.Text.{hasEmptyClause}
 use Rattle.model.specs.Assignment.{variable}
-use Rattle.model.proofs.Words.{Sub, bit-le, bit-and, bit-or, bit-less, bit-full, has-one, has-none}
-use Rattle.model.proofs.Lists.{T-true, All, all-map, all-each, all-range, all-imp, all-zip, all-getD, all-at, every-all, place-getD}
+use Rattle.model.proofs.Words.{bit-le, bit-and, bit-or, bit-less, bit-full, has-one, has-none}
+use Rattle.model.proofs.Lists.{All, all-map, all-each, all-range, all-imp, all-zip, all-getD, all-at, every-all, place-getD}
 use Rattle.encoding_laws.proofs.Sized.{Sized}
 use Rattle.encoding_laws.proofs.Fixpoint.{Stable, in-range, table-stable, clauses-keep, first-keeps}
 use Rattle.encoding_laws.proofs.Members.{members-clear, code-six, member-below}
@@ -68,7 +67,7 @@ module _ (t : List Group) (e g : ℕ) where
   member-fails h = go (has (groupAt t g .fixed) e) refl (has (groupAt t g .possible) e) refl h
     where
       go : (x : Bool) → has (groupAt t g .fixed) e ≡ x → (y : Bool) → has (groupAt t g .possible) e ≡ y
-        → cond x Holds (cond y (Open (Pos (variableOf t g e))) Fails) ≡ Fails → (fixedBit ≡ 0) × (possibleBit ≡ 0)
+          → cond x Holds (cond y (Open (Pos (variableOf t g e))) Fails) ≡ Fails → (fixedBit ≡ 0) × (possibleBit ≡ 0)
       go true p y q h = absurd (let z : _≡_ {A = ℕ} 0 1 = cc in omega arith)
       go false p true q h = absurd (let z : _≡_ {A = ℕ} 0 1 = cc in omega arith)
       go false p false q h = (has-none (groupAt t g .fixed) e p, has-none (groupAt t g .possible) e q)
@@ -78,7 +77,7 @@ module _ (t : List Group) (e g : ℕ) where
   opposite-fails h = go (has (groupAt t g .fixed) e) refl (has (groupAt t g .possible) e) refl h
     where
       go : (x : Bool) → has (groupAt t g .fixed) e ≡ x → (y : Bool) → has (groupAt t g .possible) e ≡ y
-        → oppositeTerm (cond x Holds (cond y (Open (Pos (variableOf t g e))) Fails)) ≡ Fails → fixedBit ≡ 1
+          → oppositeTerm (cond x Holds (cond y (Open (Pos (variableOf t g e))) Fails)) ≡ Fails → fixedBit ≡ 1
       go true p y q h = has-one (groupAt t g .fixed) e p
       go false p true q h = absurd (let z : _≡_ {A = ℕ} 0 1 = cc in omega arith)
       go false p false q h = absurd (let z : _≡_ {A = ℕ} 0 1 = cc in omega arith)
@@ -100,18 +99,18 @@ module _ (t : List Group) (e : ℕ) where
   made-changes n w (Pos g) s h b f k =
       let r = groupAt t g in
       let p : bitOr (r .fixed) w ≡ r .fixed =
-        ap (λ (x : Group). x .fixed) (sym (place-getD (g - 1) (fixedWith w) t zeroGroup h) ∙ ap (λ (u : List Group). getD u (g - 1) zeroGroup) k) in
+      ap (λ (x : Group). x .fixed) (sym (place-getD (g - 1) (fixedWith w) t zeroGroup h) ∙ ap (λ (u : List Group). getD u (g - 1) zeroGroup) k) in
       omega (arith, ap (bit e) p, bit-or e (r .fixed) w, member-fails t e g f .0)
   made-changes n w (Neg g) s h b f k =
       let r = groupAt t g in
       let p : less (r .possible) w ≡ r .possible =
-        ap (λ (x : Group). x .possible) (sym (place-getD (g - 1) (possibleWithout w) t zeroGroup h) ∙ ap (λ (u : List Group). getD u (g - 1) zeroGroup) k) in
+      ap (λ (x : Group). x .possible) (sym (place-getD (g - 1) (possibleWithout w) t zeroGroup h) ∙ ap (λ (u : List Group). getD u (g - 1) zeroGroup) k) in
       let q : Stable n r = all-at (Stable n) zeroGroup t s (g - 1) h in
       omega (arith, ap (bit e) p, bit-less e (r .possible) w, opposite-fails t e g f, q .sub .at e, bit-le e (r .possible))
 
   -- a clause whose rule changes nothing
   clause-filled : (n : ℕ) (ls : List Literal) → All (Stable n) t → e < n → Filled ls → All (λ l. variable l - 1 < length t) ls → clauseRule n ls t ≡ t
-    → All Filled (keep (map (termOf t e) ls))
+      → All Filled (keep (map (termOf t e) ls))
   unfolding literalRule
   clause-filled n [] s h f g k = absurd f
   clause-filled n (l ∷ after) s h f g k = kept-filled (map (termOf t e) (l ∷ after)) no-all
@@ -136,8 +135,11 @@ module _ (m : Model) (r : T (inRange m)) (fix : T (isFixpoint m)) (z : Sized m) 
       all-map (λ ls. Filled ls × All (λ l. variable l - 1 < length (tableOf m)) ls) (map (ofGroup (c .groups))) (memberClauses (c .code) (c .count)) .1
       (all-imp (λ ls. Filled ls × All (λ l. variable l < memberCount (c .code) (c .count)) ls)
       (λ ls. Filled (map (ofGroup (c .groups)) ls) × All (λ l. variable l - 1 < length (tableOf m)) (map (ofGroup (c .groups)) ls))
-      (λ ls h. (still ls (h .0), all-map (λ l. variable l - 1 < length (tableOf m)) (ofGroup (c .groups)) ls .1
-      (all-imp (λ l. variable l < memberCount (c .code) (c .count)) (λ l. variable (ofGroup (c .groups) l) - 1 < length (tableOf m)) below ls (h .1))))
+      (λ ls h. (
+        still ls (h .0),
+        all-map (λ l. variable l - 1 < length (tableOf m)) (ofGroup (c .groups)) ls .1
+            (all-imp (λ l. variable l < memberCount (c .code) (c .count)) (λ l. variable (ofGroup (c .groups) l) - 1 < length (tableOf m)) below ls (h .1)),
+      ))
       (memberClauses (c .code) (c .count)) (members-clear (c .code) (c .count) (code-six (m .s) c t)))
     where
       still : (ls : List Literal) → Filled ls → Filled (map (ofGroup (c .groups)) ls)
@@ -149,7 +151,7 @@ module _ (m : Model) (r : T (inRange m)) (fix : T (isFixpoint m)) (z : Sized m) 
       below (Neg i) h = omega (arith, member-below (m .s) c t i h, table-length m z, in-range m r .some-group)
 
   constraint-filled : (c : Constraint) → GoodConstraint c → All (λ ls. clauseRule (m .n) ls (tableOf m) ≡ tableOf m) (clausesOf c)
-    → All Filled (constraintClauses (m .n) (tableOf m) c)
+      → All Filled (constraintClauses (m .n) (tableOf m) c)
   unfolding constraintClauses clausesAt
   constraint-filled c g k =
       all-each Filled (clausesAt (tableOf m) c) (range 0 (m .n))

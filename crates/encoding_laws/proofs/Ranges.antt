@@ -1,13 +1,12 @@
 -- Every literal of the listing names a variable of 1..V. Assumes nothing.
-use mathlib.Core.Path.{_≡_, refl, sym, ap, ap₂, _∙_, subst}
-use mathlib.Core.Logic.{_↔_}
-use mathlib.Core.Bool.{Bool, true, false, not, _&&_, _||_, cond}
+use mathlib.Core.Path.{_≡_, refl, sym, subst}
+use mathlib.Core.Bool.{Bool, true, false, cond}
 use mathlib.Core.List.{List, [], _∷_, _++_, map}
-use Prim.Native.Nat.{ℕ, zero, suc, _+_, _-_, _%_, _^_, _≤_, _<_}
+use Prim.Native.Nat.{ℕ, zero, suc, _+_, _-_, _≤_, _<_}
 use native.Mathlib.Omega.{arith}
 use native.Mathlib.Decide.{decLt}
-use lib.Dec.{T, ltb}
-use lib.ListN.{length, getD, take, List·getD-eq-default}
+use lib.Dec.{T}
+use lib.ListN.{length, List·getD-eq-default}
 use Rattle.model.specs.declared.Literal.{Literal}
 use Rattle.model.specs.declared.Literal.the-variants.{Pos, Neg}
 use Rattle.model.specs.declared.Term.{Term}
@@ -16,7 +15,7 @@ use Rattle.model.specs.declared.Group.{Group}
 use Rattle.model.specs.declared.Constraint.{Constraint}
 use Rattle.model.specs.declared.Model.{Model}
 use Rattle.model.specs.Lists.{any, each, total, range}
-use Rattle.model.specs.Words.{size, bit, has}
+use Rattle.model.specs.Words.{bit, has}
 use Rattle.model.specs.Clauses.{clausesOf}
 use Rattle.model.specs.Model.{zeroGroup, groupAt, tableOf, constraintsOf, inRange}
 use Rattle.model.specs.Propagate.{isFixpoint}
@@ -107,13 +106,12 @@ module _ (lo hi : ℕ) where
       let w : ℕ = v + leaves l in
       let k : ℕ = n + outputs l in
       let own = nodeClauses (rootOutput l v n) (leaves l) (rootOutput r w k) (leaves r) (k + outputs r) in
-      all-append (All In) (treeClauses l v n ++ treeClauses r w k) own .1
-      (
+      all-append (All In) (treeClauses l v n ++ treeClauses r w k) own .1 (
         all-append (All In) (treeClauses l v n) (treeClauses r w k) .1
-        (tree-in l v n h1 h2 (omega arith) (omega arith), tree-in r w k (omega arith) (omega arith) (omega arith) (omega arith)),
+            (tree-in l v n h1 h2 (omega arith) (omega arith), tree-in r w k (omega arith) (omega arith) (omega arith) (omega arith)),
         node-in (rootOutput l v n) (leaves l) (rootOutput r w k) (leaves r) (k + outputs r) (root-low l v n h1 h2)
-        (root-high l v n (omega arith) (omega arith)) (root-low r w k (omega arith) (omega arith))
-        (root-high r w k (omega arith) (omega arith)) (omega arith) (omega arith),
+            (root-high l v n (omega arith) (omega arith)) (root-low r w k (omega arith) (omega arith))
+            (root-high r w k (omega arith) (omega arith)) (omega arith) (omega arith),
       )
 
   totalizer-in : (m v n L U : ℕ) → 1 ≤ m → L ≤ m → lo ≤ v → lo ≤ n → v + m ≤ hi → n + treeOutputCount m ≤ hi → InAll (totalizerClauses m v n L U)
@@ -124,15 +122,13 @@ module _ (lo hi : ℕ) where
       let o = rootOutput (shape m) v n in
       let x = root-low (shape m) v n h2 h3 in
       let y = root-high (shape m) v n (omega arith) (omega arith) in
-      all-append (All In) (treeClauses (shape m) v n) (unitClauses o m L U) .1
-      (
+      all-append (All In) (treeClauses (shape m) v n) (unitClauses o m L U) .1 (
         tree-in (shape m) v n h2 h3 (omega arith) (omega arith),
-        all-append (All In) (map (unit Pos o) (range 0 L)) (map (unit Neg o) (range U (m - U))) .1
-        (
+        all-append (All In) (map (unit Pos o) (range 0 L)) (map (unit Neg o) (range U (m - U))) .1 (
           all-map (All In) (unit Pos o) (range 0 L) .1
-          (all-range (λ i. All In (unit Pos o i)) 0 L (λ j l k. ((omega arith, omega arith), tt))),
+              (all-range (λ i. All In (unit Pos o i)) 0 L (λ j l k. ((omega arith, omega arith), tt))),
           all-map (All In) (unit Neg o) (range U (m - U)) .1
-          (all-range (λ i. All In (unit Neg o i)) U (m - U) (λ j l k. ((omega arith, omega arith), tt))),
+              (all-range (λ i. All In (unit Neg o i)) U (m - U) (λ j l k. ((omega arith, omega arith), tt))),
         ),
       )
 
@@ -177,7 +173,7 @@ module _ (n : ℕ) (t : List Group) (s : All (Stable n) t) where
       r = groupAt t g
 
       go : (x : Bool) → has (r .fixed) e ≡ x → (y : Bool) → has (r .possible) e ≡ y → Dec (g - 1 < length t)
-        → InTerm 1 hi (cond x Holds (cond y (Open (Pos (variableOf t g e))) Fails))
+          → InTerm 1 hi (cond x Holds (cond y (Open (Pos (variableOf t g e))) Fails))
       go true p y q d = tt
       go false p false q d = tt
       go false p true q (yes h) =
@@ -225,10 +221,9 @@ module _ (m : Model) (r : T (inRange m)) (fix : T (isFixpoint m)) (z : Sized m) 
       let gs = each (groupClauses (tableOf m)) (range 1 (m .s)) in
       let cs = each (constraintClauses (m .n) (tableOf m)) (constraintsOf m) in
       subst (VariablesIn m) (sym (clauses-parts m z))
-      (all-append (All (In 1 (suc (variableCount (tableOf m))))) gs cs .1
-      (
+      (all-append (All (In 1 (suc (variableCount (tableOf m))))) gs cs .1 (
         all-each (All (In 1 (suc (variableCount (tableOf m))))) (groupClauses (tableOf m)) (range 1 (m .s))
-        (all-range (λ g. VariablesIn m (groupClauses (tableOf m) g)) 1 (m .s) (λ g h k. group-variables g h (omega arith))),
+            (all-range (λ g. VariablesIn m (groupClauses (tableOf m) g)) 1 (m .s) (λ g h k. group-variables g h (omega arith))),
         all-each (All (In 1 (suc (variableCount (tableOf m))))) (constraintClauses (m .n) (tableOf m)) (constraintsOf m)
-        (all-make (λ c. VariablesIn m (constraintClauses (m .n) (tableOf m) c)) constraint-variables (constraintsOf m)),
+            (all-make (λ c. VariablesIn m (constraintClauses (m .n) (tableOf m) c)) constraint-variables (constraintsOf m)),
       ))

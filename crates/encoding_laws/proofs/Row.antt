@@ -1,18 +1,18 @@
 -- A group's word and the values of its variables: each word between fixed and possible is read back from one list of values. Assumes nothing.
-use mathlib.Core.Path.{_≡_, refl, sym, ap, ap₂, _∙_, subst}
-use mathlib.Core.Bool.{Bool, true, false, not, _&&_, _||_, cond}
-use mathlib.Core.List.{List, [], _∷_, _++_, map, head-eq-of-cons-eq, tail-eq-of-cons-eq}
-use Prim.Native.Nat.{ℕ, zero, suc, _+_, _*_, _-_, _/_, _%_, _^_, _≤_, _<_}
+use mathlib.Core.Path.{_≡_, refl, sym, ap, ap₂, _∙_}
+use mathlib.Core.Bool.{Bool, true, false, _&&_, _||_, cond}
+use mathlib.Core.List.{List, [], _∷_, map, head-eq-of-cons-eq, tail-eq-of-cons-eq}
+use Prim.Native.Nat.{ℕ, zero, suc, _+_, _*_, _/_, _%_, _^_, _≤_, _<_}
 use native.Mathlib.Nat.{add-zero, zero-add, add-assoc}
 use native.Mathlib.Omega.{arith}
 use native.Mathlib.Decide.{decLt}
-use lib.Dec.{T, eqb}
+use lib.Dec.{eqb}
 use lib.ListN.{length}
 use Rattle.model.specs.Lists.{range}
 use Rattle.model.specs.Words.{size, bit, has, wordWhere}
 use Rattle.model.proofs.Words.{bit-first, bit-next, bit-le, bit-past, has-first, has-next, has-one, has-none, has-word, word-first, word-ext, word-lt, size-step, size-zero, size-below}
 use Rattle.model.proofs.Lists.{values-append}
-use Rattle.encoding_laws.proofs.Tree.{count, count-append}
+use Rattle.encoding_laws.proofs.Tree.{count}
 
 -- bit e of the group's word, where f are fixed and o open, with variables from v on: fixed, or open with a true variable
 abbrev pub inRow : (ℕ → Bool) → ℕ → ℕ → ℕ → ℕ → Bool
@@ -99,7 +99,7 @@ module _ (α : ℕ → Bool) where
 
   -- the number of entrants: the fixed ones and the true variables
   pub row-size : (n f o v : ℕ) → f < 2 ^ n → o < 2 ^ n → Apart f o
-    → size (rowWord α n f o v) ≡ size f + count (map α (range v (size o)))
+      → size (rowWord α n f o v) ≡ size f + count (map α (range v (size o)))
   row-size zero f o v hf ho a =
       let p : f ≡ 0 = omega arith in
       let q : o ≡ 0 = omega arith in
@@ -138,11 +138,11 @@ module _ (α : ℕ → Bool) where
 
   -- and the word is given by the values
   pub row-of : (n f o v w : ℕ) → f < 2 ^ n → o < 2 ^ n → w < 2 ^ n → Apart f o → Holding f o w
-    → map α (range v (size o)) ≡ openValues n o w → rowWord α n f o v ≡ w
+      → map α (range v (size o)) ≡ openValues n o w → rowWord α n f o v ≡ w
   row-of zero f o v w hf ho hw a h e = row-zero f o v ∙ omega arith
   row-of (suc n) f o v w hf ho hw a h e =
       let rest : (u : ℕ) → map α (range u (size (o / 2))) ≡ openValues n (o / 2) (w / 2) → rowWord α n (f / 2) (o / 2) u ≡ w / 2 =
-        λ u k. row-of n (f / 2) (o / 2) u (w / 2) (omega arith) (omega arith) (omega arith) (apart-next f o a) (holding-next f o w h) k in
+      λ u k. row-of n (f / 2) (o / 2) u (w / 2) (omega arith) (omega arith) (omega arith) (apart-next f o a) (holding-next f o w h) k in
       row-step n f o v
       ∙ by-digit (λ x y. x ≤ w % 2 → w % 2 ≤ x + y → map α (range v (y + size (o / 2))) ≡ putValue y (w % 2) (openValues n (o / 2) (w / 2))
       → digit x y (α v) + 2 * rowWord α n (f / 2) (o / 2) (v + y) ≡ w)
@@ -156,12 +156,12 @@ module _ (α : ℕ → Bool) where
       Rest = (u : ℕ) → map α (range u (size (o / 2))) ≡ openValues n (o / 2) (w / 2) → rowWord α n (f / 2) (o / 2) u ≡ w / 2
 
       closed-case : (b : ℕ) → Rest → w % 2 ≡ b → map α (range v (0 + size (o / 2))) ≡ openValues n (o / 2) (w / 2)
-        → b + 2 * rowWord α n (f / 2) (o / 2) (v + 0) ≡ w
+          → b + 2 * rowWord α n (f / 2) (o / 2) (v + 0) ≡ w
       closed-case b rest p k =
           rw (add-zero v) (omega (arith, rest v (ap (λ (i : ℕ). map α (range v i)) (sym (zero-add (size (o / 2)))) ∙ k)))
 
       open-case : (b : ℕ) → Rest → b ≤ 1 → w % 2 ≡ b → α v ∷ map α (range (v + 1) (size (o / 2))) ≡ eqb b 1 ∷ openValues n (o / 2) (w / 2)
-        → cond (α v) 1 0 + 2 * rowWord α n (f / 2) (o / 2) (v + 1) ≡ w
+          → cond (α v) 1 0 + 2 * rowWord α n (f / 2) (o / 2) (v + 1) ≡ w
       open-case zero rest l p k = rw (head-eq-of-cons-eq k) (omega (arith, rest (v + 1) (tail-eq-of-cons-eq k)))
       open-case (suc zero) rest l p k = rw (head-eq-of-cons-eq k) (omega (arith, rest (v + 1) (tail-eq-of-cons-eq k)))
       open-case (suc (suc b)) rest l p k = absurd (omega arith)
@@ -200,7 +200,7 @@ openValues-length zero o w h = let q : o ≡ 0 = omega arith in rw (q, size-zero
 openValues-length (suc n) o w h = go (o % 2) refl (openValues-length n (o / 2) (w / 2) (omega arith)) ∙ sym (size-step o)
   where
     go : (b : ℕ) → o % 2 ≡ b → length (openValues n (o / 2) (w / 2)) ≡ size (o / 2)
-      → length (putValue b (w % 2) (openValues n (o / 2) (w / 2))) ≡ b + size (o / 2)
+        → length (putValue b (w % 2) (openValues n (o / 2) (w / 2))) ≡ b + size (o / 2)
     go zero p ih = ih ∙ sym (zero-add (size (o / 2)))
     go (suc zero) p ih = omega (arith, ih)
     go (suc (suc b)) p ih = absurd (omega arith)

@@ -1,29 +1,28 @@
 -- The listing's text, read as DIMACS, is the listing. Assumes nothing.
-use mathlib.Core.Path.{_≡_, refl, sym, ap, ap₂, _∙_, subst}
-use mathlib.Core.Logic.{_↔_}
-use mathlib.Core.Bool.{Bool, true, false, not, _&&_, _||_, cond}
+use mathlib.Core.Path.{_≡_, refl, sym, ap, _∙_}
+use mathlib.Core.Bool.{false, not}
 use mathlib.Core.List.{List, [], _∷_, _++_, map, append-assoc, append-nil}
-use mathlib.Core.Option.{Option, none, some}
-use Prim.Native.Nat.{ℕ, zero, suc, _+_, _-_, _≤_, _<_}
+use mathlib.Core.Option.{some}
+use Prim.Native.Nat.{ℕ, zero, suc, _+_, _≤_, _<_}
 use native.Mathlib.Numerals.{add-one}
 use native.Mathlib.Omega.{arith}
 use borrow.Author.Tests.{ne-eqb}
 use lib.Dec.{T, eqb}
-use lib.ListN.{length, getD, length-append}
+use lib.ListN.{length, getD}
 use Rattle.model.specs.declared.Literal.{Literal}
 use Rattle.model.specs.declared.Literal.the-variants.{Pos, Neg}
 use Rattle.model.specs.declared.Model.{Model}
-use Rattle.model.specs.Lists.{those, each, range, isEmpty, pairwise}
+use Rattle.model.specs.Lists.{those, each, range, isEmpty}
 use Rattle.model.specs.Model.{tableOf, inRange}
 use Rattle.model.specs.Propagate.{isFixpoint}
 use Rattle.model.specs.Cnf.{variableCount, clauseCount, blockClauses, clauses}
-use Rattle.model.specs.Sheet.{onFirst, linesOf, digitsAfter, numberOf}
+use Rattle.model.specs.Sheet.{onFirst, linesOf}
 use Rattle.model.specs.Text.{decimal, literalText, clauseText, headerText, blockText, listing}
-use Rattle.model.specs.Dimacs.{Formula, isBlank, pieces, tokens, natural, Number, literal, end, signedNumber, number, more, nextBegun, clausesFrom, isComment, formula, withHeader, formulaOf, readDimacs}
+use Rattle.model.specs.Dimacs.{isBlank, pieces, tokens, natural, literal, end, signedNumber, number, more, clausesFrom, isComment, withHeader, formulaOf, readDimacs}
 use Rattle.model.specs.Assignment.{variable}
-use Rattle.model.proofs.Lists.{each-each, each-map, each-range-ext, those-all, All, all-append, all-imp, all-map, all-make, all-each}
+use Rattle.model.proofs.Lists.{each-each, each-range-ext, those-all, All, all-append, all-imp, all-map, all-make, all-each}
 use Rattle.encoding_laws.proofs.Sized.{Sized}
-use Rattle.encoding_laws.proofs.Decimal.{decimal-reads, decimal-digits, decimal-some, decimal-natural, decimal-number}
+use Rattle.encoding_laws.proofs.Decimal.{decimal-digits, decimal-some, decimal-natural}
 use Rattle.encoding_laws.proofs.Ranges.{In, variables-in}
 
 -- ---- the listing as a header line and a line for each clause
@@ -104,10 +103,8 @@ header-printed m =
     let vs = decimal (variableCount (tableOf m)) in
     let ks = decimal (clauseCount m) in
     let h : List ℕ = 112 ∷ 32 ∷ 99 ∷ 110 ∷ 102 ∷ 32 ∷ [] in
-    all-append P (h ++ vs ++ (32 ∷ [])) ks .1
-    (
-      all-append P (h ++ vs) (32 ∷ []) .1
-      (
+    all-append P (h ++ vs ++ (32 ∷ [])) ks .1 (
+      all-append P (h ++ vs) (32 ∷ []) .1 (
         all-append P h vs .1 ((omega arith, (omega arith, (omega arith, (omega arith, (omega arith, (omega arith, tt)))))), d (variableCount (tableOf m))),
         (omega arith, tt),
       ),
@@ -122,7 +119,7 @@ text-lines m cs =
     ∙ ap {B = List (List ℕ)} (λ l. headerLine m ∷ l) (lines-of cs)
 
 no-comments : (m : Model) (cs : List (List Literal))
-  → those (λ l. not (isComment l)) (headerLine m ∷ map clauseLine cs) ≡ headerLine m ∷ map clauseLine cs
+    → those (λ l. not (isComment l)) (headerLine m ∷ map clauseLine cs) ≡ headerLine m ∷ map clauseLine cs
 unfolding isComment headerLine
 no-comments m cs =
     those-all (λ l. not (isComment l)) (headerLine m ∷ map clauseLine cs)
@@ -189,14 +186,14 @@ clause-tokens c =
 
 -- block 0's line is the words p, cnf, V and C
 pub header-tokens : (m : Model)
-  → tokens (headerLine m) ≡ (112 ∷ []) ∷ (99 ∷ 110 ∷ 102 ∷ []) ∷ decimal (variableCount (tableOf m)) ∷ decimal (clauseCount m) ∷ []
+    → tokens (headerLine m) ≡ (112 ∷ []) ∷ (99 ∷ 110 ∷ 102 ∷ []) ∷ decimal (variableCount (tableOf m)) ∷ decimal (clauseCount m) ∷ []
 unfolding tokens headerLine isBlank
 header-tokens m =
     let vs = decimal (variableCount (tableOf m)) in
     let ks = decimal (clauseCount m) in
     let e : pieces (vs ++ (32 ∷ []) ++ ks) ≡ vs ∷ ks ∷ [] =
-      ap pieces (append-assoc vs (32 ∷ []) ks) ∙ piece-cut vs ks (digits-solid (variableCount (tableOf m)))
-      ∙ ap {B = List (List ℕ)} (λ ws. vs ∷ ws) (piece-last ks (decimal-some (clauseCount m)) (digits-solid (clauseCount m))) in
+    ap pieces (append-assoc vs (32 ∷ []) ks) ∙ piece-cut vs ks (digits-solid (variableCount (tableOf m)))
+    ∙ ap {B = List (List ℕ)} (λ ws. vs ∷ ws) (piece-last ks (decimal-some (clauseCount m)) (digits-solid (clauseCount m))) in
     rw e
     (those-all (λ w. not (isEmpty w)) ((112 ∷ []) ∷ (99 ∷ 110 ∷ 102 ∷ []) ∷ vs ∷ ks ∷ [])
     (tt, (tt, (filled vs (decimal-some (variableCount (tableOf m))), (filled ks (decimal-some (clauseCount m)), tt)))))
@@ -228,7 +225,7 @@ zero-number = refl
 -- ---- clauses
 
 clause-read : (begun c : List Literal) (ws : List (List ℕ)) → All (λ l. 1 ≤ variable l) c
-  → clausesFrom begun (map literalWord c ++ ((48 ∷ []) ∷ ws)) ≡ more (begun ++ c) end (clausesFrom [] ws)
+    → clausesFrom begun (map literalWord c ++ ((48 ∷ []) ∷ ws)) ≡ more (begun ++ c) end (clausesFrom [] ws)
 clause-read begun [] ws h = rw (zero-number, append-nil begun)
 clause-read begun (l ∷ c) ws h =
     rw (word-number l (h .0))
@@ -246,8 +243,8 @@ clauses-read (c ∷ cs) h =
 
 -- what a text says with the header of m and some clauses
 pub text-reads : (m : Model) (cs : List (List Literal)) → All (All (λ l. 1 ≤ variable l)) cs
-  → readDimacs (headerText m ++ each clauseText cs)
-  ≡ some (record { variables = variableCount (tableOf m); clauseCount = clauseCount m; clauses = cs })
+    → readDimacs (headerText m ++ each clauseText cs)
+    ≡ some (record { variables = variableCount (tableOf m); clauseCount = clauseCount m; clauses = cs })
 unfolding readDimacs withHeader
 text-reads m cs h =
     ap (λ (ls : List (List ℕ)). formulaOf (those (λ l. not (isComment l)) ls)) (text-lines m cs)
@@ -262,7 +259,7 @@ header-reads m = ap readDimacs (sym (append-nil (headerText m))) ∙ text-reads 
 
 -- the listing reads as V, C and the clauses
 pub listing-reads : (m : Model) → T (inRange m) → T (isFixpoint m) → Sized m
-  → readDimacs (listing m) ≡ some (record { variables = variableCount (tableOf m); clauseCount = clauseCount m; clauses = clauses m })
+    → readDimacs (listing m) ≡ some (record { variables = variableCount (tableOf m); clauseCount = clauseCount m; clauses = clauses m })
 listing-reads m r fix z =
     ap readDimacs (listing-parts m)
     ∙ text-reads m (clauses m)

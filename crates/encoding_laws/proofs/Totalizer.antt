@@ -1,19 +1,18 @@
 -- A totalizer's clauses hold exactly when its outputs are the unary counts and the number of true leaves is in the limits. Assumes nothing.
-use mathlib.Core.Path.{_≡_, refl, sym, ap, ap₂, _∙_, subst}
+use mathlib.Core.Path.{_≡_, refl, sym, ap₂, _∙_, subst}
 use mathlib.Core.Logic.{_↔_}
-use mathlib.Core.Bool.{Bool, true, false, not, _&&_, _||_, cond}
-use mathlib.Core.List.{List, [], _∷_, _++_, map}
-use Prim.Native.Nat.{ℕ, zero, suc, _+_, _*_, _-_, _/_, _≤_, _<_}
+use mathlib.Core.Bool.{Bool, true, false, not, _||_}
+use mathlib.Core.List.{List, _++_, map}
+use Prim.Native.Nat.{ℕ, zero, suc, _+_, _-_, _/_, _≤_, _<_}
 use native.Mathlib.Nat.{le-refl}
 use native.Mathlib.Omega.{arith}
 use native.Mathlib.Decide.{decLe}
 use lib.Dec.{T, leb, ltb, le→leb, lt→ltb, ltb→lt, T-not}
 use lib.Arith.{lt→nleb, le→nltb}
-use lib.ListN.{length}
 use Rattle.model.specs.declared.Literal.{Literal}
 use Rattle.model.specs.declared.Literal.the-variants.{Pos, Neg}
-use Rattle.model.specs.Lists.{every, range}
-use Rattle.model.specs.Totalizer.{nodeClauses, Shape, leaf, node, shapeIn, shape, leaves, outputs, rootOutput, treeClauses, unit, unitClauses, totalizerClauses}
+use Rattle.model.specs.Lists.{range}
+use Rattle.model.specs.Totalizer.{nodeClauses, leaf, node, shapeIn, shape, leaves, outputs, rootOutput, treeClauses, unit, unitClauses, totalizerClauses}
 use Rattle.model.specs.Close.{truth, literalTrue, clauseTrue}
 use Rattle.model.proofs.Lists.{T-true, T-false, every-map, every-range, range-every}
 use Rattle.encoding_laws.proofs.Truth.{allTrue, allTrue-append}
@@ -31,18 +30,16 @@ module _ (a : List Bool) (first m L U x : ℕ) (hL : L ≤ m) (hU : U ≤ m) (hx
   unfolding unit clauseTrue
   unitsTrue sign i k =
       let p : ℕ → Bool = λ j. clauseTrue a (unit sign first j) in
-      let e = every-map (clauseTrue a) (unit sign first) (range i k) in
-      (
+      let e = every-map (clauseTrue a) (unit sign first) (range i k) in (
         λ t j l h. T-or (literalTrue a (sign (first + j))) .0 (every-range p i k (subst T e t) j l h),
         λ h. subst T (sym e) (range-every p i k (λ j l k. T-or (literalTrue a (sign (first + j))) .1 (h j l k))),
       )
 
   low-iff : T (allTrue a (map (unit Pos first) (range 0 L))) ↔ (L ≤ x)
-  low-iff =
-      (
-        λ t. go (unitsTrue Pos 0 L .0 t) (decLe L x),
-        λ h. unitsTrue Pos 0 L .1 (λ j l k. rw (u j (omega arith)) (lt→ltb j x (omega arith))),
-      )
+  low-iff = (
+    λ t. go (unitsTrue Pos 0 L .0 t) (decLe L x),
+    λ h. unitsTrue Pos 0 L .1 (λ j l k. rw (u j (omega arith)) (lt→ltb j x (omega arith))),
+  )
     where
       go : ((j : ℕ) → 0 ≤ j → j < 0 + L → T (truth a (first + j))) → Dec (L ≤ x) → L ≤ x
       go t (yes h) = h
@@ -51,11 +48,10 @@ module _ (a : List Bool) (first m L U x : ℕ) (hL : L ≤ m) (hU : U ≤ m) (hx
           omega arith
 
   high-iff : T (allTrue a (map (unit Neg first) (range U (m - U)))) ↔ (x ≤ U)
-  high-iff =
-      (
-        λ t. go (unitsTrue Neg U (m - U) .0 t) (decLe x U),
-        λ h. unitsTrue Neg U (m - U) .1 (λ j l k. rw (u j (omega arith)) (le→nltb j x (omega arith))),
-      )
+  high-iff = (
+    λ t. go (unitsTrue Neg U (m - U) .0 t) (decLe x U),
+    λ h. unitsTrue Neg U (m - U) .1 (λ j l k. rw (u j (omega arith)) (le→nltb j x (omega arith))),
+  )
     where
       go : ((j : ℕ) → U ≤ j → j < U + (m - U) → T (not (truth a (first + j)))) → Dec (x ≤ U) → x ≤ U
       go t (yes h) = h
@@ -64,8 +60,7 @@ module _ (a : List Bool) (first m L U x : ℕ) (hL : L ≤ m) (hU : U ≤ m) (hx
   pub units-iff : T (allTrue a (unitClauses first m L U)) ↔ ((L ≤ x) × (x ≤ U))
   unfolding unitClauses
   units-iff =
-      let s = allTrue-append a (map (unit Pos first) (range 0 L)) (map (unit Neg first) (range U (m - U))) in
-      (
+      let s = allTrue-append a (map (unit Pos first) (range 0 L)) (map (unit Neg first) (range U (m - U))) in (
         λ t. let z = s .0 t in (low-iff .0 (z .0), high-iff .0 (z .1)),
         λ h. s .1 (low-iff .1 (h .0), high-iff .1 (h .1)),
       )
@@ -86,8 +81,8 @@ leaves-shapeIn zero m h k = absurd (omega arith)
 leaves-shapeIn (suc f) m h k = go (leaves-shapeIn f (m / 2)) (leaves-shapeIn f (m - m / 2)) (decLe 2 m)
   where
     go : (1 ≤ m / 2 → m / 2 ≤ f → leaves (shapeIn f (m / 2)) ≡ m / 2)
-      → (1 ≤ m - m / 2 → m - m / 2 ≤ f → leaves (shapeIn f (m - m / 2)) ≡ m - m / 2)
-      → Dec (2 ≤ m) → leaves (shapeIn (suc f) m) ≡ m
+        → (1 ≤ m - m / 2 → m - m / 2 ≤ f → leaves (shapeIn f (m - m / 2)) ≡ m - m / 2)
+        → Dec (2 ≤ m) → leaves (shapeIn (suc f) m) ≡ m
     go l r (yes h2) = rw (shapeIn-step f m h2, l (omega arith) (omega arith), r (omega arith) (omega arith)) (omega arith)
     go l r (no h2) = rw (shapeIn-one (suc f) m (omega arith)) (omega arith)
 
@@ -101,8 +96,8 @@ shapeIn-same (suc f) zero m h k = shapeIn-one (suc f) m (omega arith) ∙ sym (s
 shapeIn-same (suc f) (suc g) m h k = go (shapeIn-same f g (m / 2)) (shapeIn-same f g (m - m / 2)) (decLe 2 m)
   where
     go : (m / 2 ≤ f → m / 2 ≤ g → shapeIn f (m / 2) ≡ shapeIn g (m / 2))
-      → (m - m / 2 ≤ f → m - m / 2 ≤ g → shapeIn f (m - m / 2) ≡ shapeIn g (m - m / 2))
-      → Dec (2 ≤ m) → shapeIn (suc f) m ≡ shapeIn (suc g) m
+        → (m - m / 2 ≤ f → m - m / 2 ≤ g → shapeIn f (m - m / 2) ≡ shapeIn g (m - m / 2))
+        → Dec (2 ≤ m) → shapeIn (suc f) m ≡ shapeIn (suc g) m
     go l r (yes h2) = shapeIn-step f m h2 ∙ ap₂ node (l (omega arith) (omega arith)) (r (omega arith) (omega arith)) ∙ sym (shapeIn-step g m h2)
     go l r (no h2) = shapeIn-one (suc f) m (omega arith) ∙ sym (shapeIn-one (suc g) m (omega arith))
 
@@ -121,11 +116,11 @@ shape-one m h = shapeIn-one m m h
 
 -- the clauses and the root of a tree of size m, from those of its halves
 pub tree-step : (m v o : ℕ) → 2 ≤ m
-  → treeClauses (shape m) v o
-  ≡ treeClauses (shape (m / 2)) v o
-  ++ treeClauses (shape (m - m / 2)) (v + m / 2) (o + outputs (shape (m / 2)))
-  ++ nodeClauses (rootOutput (shape (m / 2)) v o) (m / 2) (rootOutput (shape (m - m / 2)) (v + m / 2) (o + outputs (shape (m / 2)))) (m - m / 2)
-  (o + outputs (shape (m / 2)) + outputs (shape (m - m / 2)))
+    → treeClauses (shape m) v o
+    ≡ treeClauses (shape (m / 2)) v o
+    ++ treeClauses (shape (m - m / 2)) (v + m / 2) (o + outputs (shape (m / 2)))
+    ++ nodeClauses (rootOutput (shape (m / 2)) v o) (m / 2) (rootOutput (shape (m - m / 2)) (v + m / 2) (o + outputs (shape (m / 2)))) (m - m / 2)
+    (o + outputs (shape (m / 2)) + outputs (shape (m - m / 2)))
 unfolding treeClauses
 tree-step m v o h = rw (shape-step m h) (rw (leaves-shape (m / 2) (omega arith), leaves-shape (m - m / 2) (omega arith)))
 
@@ -138,15 +133,14 @@ root-step m v o h =
 -- ---- the totalizer of m leaves from v on, its outputs from o on
 
 pub totalizer-iff : (a : List Bool) (m v o L U : ℕ) → 1 ≤ m → L ≤ m → U ≤ m
-  → T (allTrue a (totalizerClauses m v o L U)) ↔ (Filled a (shape m) v o × ((L ≤ count (valuesFrom a v m)) × (count (valuesFrom a v m) ≤ U)))
+    → T (allTrue a (totalizerClauses m v o L U)) ↔ (Filled a (shape m) v o × ((L ≤ count (valuesFrom a v m)) × (count (valuesFrom a v m) ≤ U)))
 unfolding trues totalizerClauses
-totalizer-iff a m v o L U h1 hL hU =
-    (
-      λ t. let s = allTrue-append a tree ends .0 t in
+totalizer-iff a m v o L U h1 hL hU = (
+  λ t. let s = allTrue-append a tree ends .0 t in
       let f = tree-iff a (shape m) v o .0 (s .0) in
       (f, units-iff a n m L U x hL hU le (un f) .0 (s .1)),
-      λ h. allTrue-append a tree ends .1 (tree-iff a (shape m) v o .1 (h .0), units-iff a n m L U x hL hU le (un (h .0)) .1 (h .1)),
-    )
+  λ h. allTrue-append a tree ends .1 (tree-iff a (shape m) v o .1 (h .0), units-iff a n m L U x hL hU le (un (h .0)) .1 (h .1)),
+)
   where
     n : ℕ
     n = rootOutput (shape m) v o

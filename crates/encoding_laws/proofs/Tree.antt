@@ -1,18 +1,17 @@
 -- A tree's clauses hold exactly when its outputs are the unary counts of its leaves. Assumes nothing.
-use mathlib.Core.Path.{_≡_, refl, sym, ap, ap₂, _∙_, subst}
+use mathlib.Core.Path.{_≡_, refl, sym, ap, _∙_, subst}
 use mathlib.Core.Logic.{_↔_}
-use mathlib.Core.Bool.{Bool, true, false, not, _&&_, _||_, cond}
-use mathlib.Core.List.{List, [], _∷_, _++_, map, append-assoc}
-use Prim.Native.Nat.{ℕ, zero, suc, _+_, _-_, _≤_, _<_}
-use native.Mathlib.Nat.{add-zero, zero-add, add-suc, suc-add}
+use mathlib.Core.Bool.{Bool, true, false}
+use mathlib.Core.List.{List, [], _∷_, _++_, map}
+use Prim.Native.Nat.{ℕ, suc, _+_, _≤_}
+use native.Mathlib.Nat.{add-zero, zero-add, suc-add}
 use native.Mathlib.Omega.{arith}
-use lib.Dec.{T, leb, ltb}
+use lib.Dec.{T, ltb}
 use lib.ListN.{length, take, drop, length-append}
 use lib.Seq.{take-at, drop-at}
-use Rattle.model.specs.declared.Literal.{Literal}
-use Rattle.model.specs.Lists.{every, range}
+use Rattle.model.specs.Lists.{range}
 use Rattle.model.specs.Totalizer.{nodeClauses, Shape, leaf, node, leaves, outputs, rootOutput, treeClauses}
-use Rattle.model.specs.Close.{truth, clauseTrue}
+use Rattle.model.specs.Close.{truth}
 use Rattle.model.proofs.Lists.{values-get, values-make, values-append, values-length, append-iff}
 use Rattle.encoding_laws.proofs.Truth.{allTrue, allTrue-append}
 use Rattle.encoding_laws.proofs.Node.{Unary, node→, node←}
@@ -72,11 +71,10 @@ module _ (a : List Bool) where
   trues-add v k m = rw (values-append (truth a) v k m) (count-append (valuesFrom v k) (valuesFrom (v + k) m))
 
   pub unary-iff : (o m x : ℕ) → (valuesFrom o m ≡ unary m x) ↔ Unary a o m x
-  unary-iff o m x =
-      (
-        λ e i h. rw (zero-add i) at (values-get (truth a) (λ i. ltb i x) o 0 m e i h),
-        λ u. values-make (truth a) (λ i. ltb i x) o 0 m (λ k h. rw (zero-add k) (u k h)),
-      )
+  unary-iff o m x = (
+    λ e i h. rw (zero-add i) at (values-get (truth a) (λ i. ltb i x) o 0 m e i h),
+    λ u. values-make (truth a) (λ i. ltb i x) o 0 m (λ k h. rw (zero-add k) (u k h)),
+  )
 
   abbrev Parts : Shape → Shape → ℕ → ℕ → Type 0
   Parts l r v o =
@@ -86,7 +84,7 @@ module _ (a : List Bool) where
 
   module _ (l r : Shape) (v o : ℕ) where
     ours : valuesFrom o (outputs (node l r))
-      ≡ valuesFrom o (outputs l) ++ (valuesFrom (o + outputs l) (outputs r) ++ valuesFrom (o + outputs l + outputs r) (leaves l + leaves r))
+        ≡ valuesFrom o (outputs l) ++ (valuesFrom (o + outputs l) (outputs r) ++ valuesFrom (o + outputs l + outputs r) (leaves l + leaves r))
     ours =
         let e : outputs (node l r) ≡ outputs l + (outputs r + (leaves l + leaves r)) = omega arith in
         rw (
@@ -96,8 +94,8 @@ module _ (a : List Bool) where
         )
 
     theirs : fill (node l r) (valuesFrom v (leaves l + leaves r))
-      ≡ fill l (valuesFrom v (leaves l))
-      ++ (fill r (valuesFrom (v + leaves l) (leaves r)) ++ unary (leaves l + leaves r) (trues v (leaves l) + trues (v + leaves l) (leaves r)))
+        ≡ fill l (valuesFrom v (leaves l))
+        ++ (fill r (valuesFrom (v + leaves l) (leaves r)) ++ unary (leaves l + leaves r) (trues v (leaves l) + trues (v + leaves l) (leaves r)))
     unfolding trues
     theirs =
         let k = values-length (truth a) v (leaves l) in
@@ -116,16 +114,15 @@ module _ (a : List Bool) where
         let fl = fill l (valuesFrom v (leaves l)) in
         let fr = fill r (valuesFrom (v + leaves l) (leaves r)) in
         let p =
-          append-iff (valuesFrom o (outputs l)) (valuesFrom (o + outputs l) (outputs r) ++ valuesFrom n m) fl (fr ++ unary m x)
-          (values-length (truth a) o (outputs l) ∙ sym (length-fill l (valuesFrom v (leaves l)))) in
+        append-iff (valuesFrom o (outputs l)) (valuesFrom (o + outputs l) (outputs r) ++ valuesFrom n m) fl (fr ++ unary m x)
+        (values-length (truth a) o (outputs l) ∙ sym (length-fill l (valuesFrom v (leaves l)))) in
         let q =
-          append-iff (valuesFrom (o + outputs l) (outputs r)) (valuesFrom n m) fr (unary m x)
-          (values-length (truth a) (o + outputs l) (outputs r) ∙ sym (length-fill r (valuesFrom (v + leaves l) (leaves r)))) in
-        let u = unary-iff n m x in
-        (
+        append-iff (valuesFrom (o + outputs l) (outputs r)) (valuesFrom n m) fr (unary m x)
+        (values-length (truth a) (o + outputs l) (outputs r) ∙ sym (length-fill r (valuesFrom (v + leaves l) (leaves r)))) in
+        let u = unary-iff n m x in (
           λ e. let e′ = p .0 (sym ours ∙ e ∙ theirs) in
-          let e″ = q .0 (e′ .1) in
-          (e′ .0, (e″ .0, u .0 (e″ .1))),
+              let e″ = q .0 (e′ .1) in
+              (e′ .0, (e″ .0, u .0 (e″ .1))),
           λ h. ours ∙ p .1 (h .0, q .1 (h .1 .0, u .1 (h .1 .1))) ∙ sym theirs,
         )
 
@@ -151,12 +148,13 @@ module _ (a : List Bool) where
       let z = allTrue-append a (treeClauses l v o) (treeClauses r w k) .0 (s .0) in
       let fl = tree→ l v o (z .0) in
       let fr = tree→ r w k (z .1) in
-      parts l r v o .1
-      (
+      parts l r v o .1 (
         fl,
-        (fr,
-        node→ a (rootOutput l v o) (leaves l) (rootOutput r w k) (leaves r) (k + outputs r) (trues v (leaves l)) (trues w (leaves r))
-        (trues-le v (leaves l)) (trues-le w (leaves r)) (filled-root l v o fl) (filled-root r w k fr) (s .1)),
+        (
+          fr,
+          node→ a (rootOutput l v o) (leaves l) (rootOutput r w k) (leaves r) (k + outputs r) (trues v (leaves l)) (trues w (leaves r))
+              (trues-le v (leaves l)) (trues-le w (leaves r)) (filled-root l v o fl) (filled-root r w k fr) (s .1),
+        ),
       )
 
   tree← : (s : Shape) (v o : ℕ) → Filled s v o → T (allTrue a (treeClauses s v o))
@@ -167,11 +165,10 @@ module _ (a : List Bool) where
       let k : ℕ = o + outputs l in
       let own = nodeClauses (rootOutput l v o) (leaves l) (rootOutput r w k) (leaves r) (k + outputs r) in
       let s = parts l r v o .0 f in
-      allTrue-append a (treeClauses l v o ++ treeClauses r w k) own .1
-      (
+      allTrue-append a (treeClauses l v o ++ treeClauses r w k) own .1 (
         allTrue-append a (treeClauses l v o) (treeClauses r w k) .1 (tree← l v o (s .0), tree← r w k (s .1 .0)),
         node← a (rootOutput l v o) (leaves l) (rootOutput r w k) (leaves r) (k + outputs r) (trues v (leaves l)) (trues w (leaves r))
-        (trues-le v (leaves l)) (trues-le w (leaves r)) (filled-root l v o (s .0)) (filled-root r w k (s .1 .0)) (s .1 .1),
+            (trues-le v (leaves l)) (trues-le w (leaves r)) (filled-root l v o (s .0)) (filled-root r w k (s .1 .0)) (s .1 .1),
       )
 
   -- for every tree, wherever its leaves and outputs are numbered from

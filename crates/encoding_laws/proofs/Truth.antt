@@ -1,5 +1,5 @@
 -- Truth of clauses: dropping known literals does not change it. Assumes nothing.
-use mathlib.Core.Path.{_≡_, refl, sym, ap, ap₂, _∙_}
+use mathlib.Core.Path.{_≡_, refl, sym, ap, _∙_}
 use mathlib.Core.Logic.{_↔_}
 use mathlib.Core.Bool.{Bool, true, false, not, _&&_, _||_, cond, Bool·not-not}
 use mathlib.Core.List.{List, [], _∷_, _++_, map}
@@ -22,11 +22,10 @@ T-and a b = (λ t. (and-left a b t, and-right a b t), λ p. and-both a b (p .0) 
 
 module _ (a : List Bool) where
   pub allTrue-append : (cs ds : List (List Literal)) → T (allTrue a (cs ++ ds)) ↔ (T (allTrue a cs) × T (allTrue a ds))
-  allTrue-append cs ds =
-      (
-        λ t. T-and (allTrue a cs) (allTrue a ds) .0 (rw (every-append (clauseTrue a) cs ds) at t),
-        λ h. rw (every-append (clauseTrue a) cs ds) (T-and (allTrue a cs) (allTrue a ds) .1 h),
-      )
+  allTrue-append cs ds = (
+    λ t. T-and (allTrue a cs) (allTrue a ds) .0 (rw (every-append (clauseTrue a) cs ds) at t),
+    λ h. rw (every-append (clauseTrue a) cs ds) (T-and (allTrue a cs) (allTrue a ds) .1 h),
+  )
 
   pub opposite-true : (t : Term) → termTrue a (oppositeTerm t) ≡ not (termTrue a t)
   unfolding opposite
@@ -56,12 +55,12 @@ module _ (a : List Bool) where
       and-true false = refl
 
       go : (b : Bool) → (b || any (literalTrue a) (literals ts)) ≡ any (termTrue a) ts
-        → every (any (literalTrue a)) (cond b [] (literals ts ∷ [])) ≡ any (termTrue a) ts
+          → every (any (literalTrue a)) (cond b [] (literals ts ∷ [])) ≡ any (termTrue a) ts
       go true e = e
       go false e = and-true (any (literalTrue a) (literals ts)) ∙ e
 
   pub kept-true : {B : Type 0} (f : B → Term) (fs : List (List B))
-    → allTrue a (each (λ c. keep (map f c)) fs) ≡ every (λ c. any (λ x. termTrue a (f x)) c) fs
+      → allTrue a (each (λ c. keep (map f c)) fs) ≡ every (λ c. any (λ x. termTrue a (f x)) c) fs
   kept-true f fs =
       every-each (clauseTrue a) (λ c. keep (map f c)) fs
       ∙ every-ext (λ c. allTrue a (keep (map f c))) (λ c. any (λ x. termTrue a (f x)) c)

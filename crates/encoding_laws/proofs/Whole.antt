@@ -13,23 +13,22 @@ use lib.ListN.{length, getD, take, drop, length-append, length-drop, length-map,
 use lib.Seq.{drop-cons, take-all, take-at, drop-at, getD-take}
 use Rattle.model.specs.declared.Literal.{Literal}
 use Rattle.model.specs.declared.Literal.the-variants.{Pos, Neg}
-use Rattle.model.specs.declared.Term.{Term}
 use Rattle.model.specs.declared.Term.the-variants.{Holds, Fails, Open}
 use Rattle.model.specs.declared.Group.{Group}
 use Rattle.model.specs.declared.Constraint.{Constraint}
 use Rattle.model.specs.declared.Model.{Model}
 use Rattle.model.specs.Lists.{every, any, pairwise, each, total, range, between}
 use Rattle.model.specs.Limits.{limits}
-use Rattle.model.specs.Words.{less, size, inside, bit, has, wordWhere}
+use Rattle.model.specs.Words.{size, inside, has}
 use Rattle.model.specs.Clauses.{memberCount, memberClauses, ofGroup, groupsOf, clausesOf}
 use Rattle.model.specs.Model.{groupAt, tableOf, constraintsOf, constraintInRange, inRange}
 use Rattle.model.specs.Propagate.{isFixpoint}
-use Rattle.model.specs.Totalizer.{oppositeTerm, keep, shape, leaves, outputs, totalizerClauses, treeOutputCount}
+use Rattle.model.specs.Totalizer.{shape, totalizerClauses, treeOutputCount}
 use Rattle.model.specs.Cnf.{openOf, openCount, atLeast, atMost, counted, outputsOf, firstVariable, firstOutput, variableOf, variableCount, groupClauses, membership, termOf, clausesAt, constraintClauses, clauses}
-use Rattle.model.specs.Solution.{allowed, meaning, setOf, constraintTrue, isSolution}
+use Rattle.model.specs.Solution.{allowed, setOf, constraintTrue, isSolution}
 use Rattle.model.specs.Close.{truth, termTrue, clauseTrue, satisfying, groupBy, groupsBy}
 use Rattle.model.specs.Demand.{isAssignment, isSatisfying}
-use Rattle.model.proofs.Words.{Sub, sub-inside, inside-sub, sub-less, sub-le, size-less, bit-less, bit-le, has-one, has-none, has-less, word-ext, word-lt, has-word}
+use Rattle.model.proofs.Words.{Sub, sub-inside, inside-sub, sub-less, sub-le, size-less, bit-less, bit-le, has-less, word-ext, word-lt, has-word}
 use Rattle.model.proofs.Lists.{T-true, T-false, and-left, and-right, and-both, every-each, every-map, every-ext, any-map, any-ext, every-range-ext, every-all-ext, values-make, values-append, values-length, append-iff, All, all-imp, all-zip, all-map, all-make, all-getD, every-all, getD-map-in, range-getD, range-length}
 use Rattle.encoding_laws.proofs.Sized.{Sized, membersSized}
 use Rattle.encoding_laws.proofs.Truth.{allTrue, allTrue-append, T-and, opposite-true, kept-true}
@@ -37,7 +36,7 @@ use Rattle.encoding_laws.proofs.Tree.{count, fill, length-fill, valuesF
 use Rattle.encoding_laws.proofs.Totalizer.{totalizer-iff, leaves-shape}
 use Rattle.encoding_laws.proofs.Counts.{outputs-count}
 use Rattle.encoding_laws.proofs.Groups.{table-length, clauses-parts, overGroups, numbered}
-use Rattle.encoding_laws.proofs.Fixpoint.{Stable, InRange, in-range, table-stable}
+use Rattle.encoding_laws.proofs.Fixpoint.{Stable, in-range, table-stable}
 use Rattle.encoding_laws.proofs.Members.{code-six, groups-length, member-group}
 use Rattle.encoding_laws.proofs.Meaning.{memberTrue, meaningAt, clauses-meaning, meaning-ext, meaning-words}
 use Rattle.encoding_laws.proofs.Row.{inRow, rowWord, openValues, Apart, Holding, row-size, row-values, row-of, row-holding, openValues-length}
@@ -126,19 +125,18 @@ module _ (n : ℕ) (a : List Bool) (r : Group) (v o : ℕ) (s : Stable n r) wher
       hx = rw (values-length (truth a) v m) at (count-le (valuesFrom a v m))
 
       go : (b : Bool) → counted r ≡ b
-        → T (allTrue a (cond b (totalizerClauses m v o (atLeast r) (atMost r)) []))
-        ↔ ((valuesFrom a o (cond b (treeOutputCount m) 0) ≡ cond b (fill (shape m) (valuesFrom a v m)) []) × InLimits)
+          → T (allTrue a (cond b (totalizerClauses m v o (atLeast r) (atMost r)) []))
+          ↔ ((valuesFrom a o (cond b (treeOutputCount m) 0) ≡ cond b (fill (shape m) (valuesFrom a v m)) []) × InLimits)
       go true c =
           let h1 : 1 ≤ m = counted-pos (atLeast r) (atMost r) m (l .low-open) (subst T (sym c) tt) in
-          let w = totalizer-iff a m v o (atLeast r) (atMost r) h1 (l .low-open) (l .high-open) in
-          (
+          let w = totalizer-iff a m v o (atLeast r) (atMost r) h1 (l .low-open) (l .high-open) in (
             λ t. let q = w .0 t in
-            let q0 = q .1 .0 in
-            let q1 = q .1 .1 in
-            (rw (outputs-count m, leaves-shape m h1) at (q .0), (omega (arith, word-size, l .low-is), omega (arith, word-size, l .high-is))),
+                let q0 = q .1 .0 in
+                let q1 = q .1 .1 in
+                (rw (outputs-count m, leaves-shape m h1) at (q .0), (omega (arith, word-size, l .low-is), omega (arith, word-size, l .high-is))),
             λ h. let h0 = h .1 .0 in
-            let h1′ = h .1 .1 in
-            w .1 (rw (outputs-count m, leaves-shape m h1) (h .0), (omega (arith, word-size, l .low-is), omega (arith, word-size, l .high-is))),
+                let h1′ = h .1 .1 in
+                w .1 (rw (outputs-count m, leaves-shape m h1) (h .0), (omega (arith, word-size, l .low-is), omega (arith, word-size, l .high-is))),
           )
       go false c =
           let w = uncounted (atLeast r) (atMost r) m (subst (λ b. T (not b)) (sym c) tt) in
@@ -153,16 +151,14 @@ module _ (n : ℕ) (a : List Bool) (r : Group) (v o : ℕ) (s : Stable n r) wher
       let h : Holding (r .fixed) (openOf r) w = row-holding (truth a) n (r .fixed) (openOf r) v (fixed-lt n r s) in
       let i = inside (r .fixed) w && inside w (r .possible) in
       let fw : Sub (r .fixed) w = record { at = λ e. h .low e } in
-      let wp : Sub w (r .possible) = record { at = λ e. omega (arith, h .high e, bit-less e (r .possible) (r .fixed), s .sub .at e) } in
-      (
-        λ t. let b = and-right i (between (r .low) (r .high) (size w)) t in
-        (
+      let wp : Sub w (r .possible) = record { at = λ e. omega (arith, h .high e, bit-less e (r .possible) (r .fixed), s .sub .at e) } in (
+        λ t. let b = and-right i (between (r .low) (r .high) (size w)) t in (
           leb→le (r .low) (size w) (and-left (leb (r .low) (size w)) (leb (size w) (r .high)) b),
           leb→le (size w) (r .high) (and-right (leb (r .low) (size w)) (leb (size w) (r .high)) b),
         ),
         λ l. and-both i (between (r .low) (r .high) (size w))
-        (and-both (inside (r .fixed) w) (inside w (r .possible)) (sub-inside (r .fixed) w fw) (sub-inside w (r .possible) wp))
-        (and-both (leb (r .low) (size w)) (leb (size w) (r .high)) (le→leb (r .low) (size w) (l .0)) (le→leb (size w) (r .high) (l .1))),
+            (and-both (inside (r .fixed) w) (inside w (r .possible)) (sub-inside (r .fixed) w fw) (sub-inside w (r .possible) wp))
+            (and-both (leb (r .low) (size w)) (leb (size w) (r .high)) (le→leb (r .low) (size w) (l .0)) (le→leb (size w) (r .high) (l .1))),
       )
 
 -- an allowed word is between the fixed and the possible entrants
@@ -173,8 +169,7 @@ allowed-holding n r w s t =
     let h = and-left i (between (r .low) (r .high) (size w)) t in
     let fw = inside-sub (r .fixed) w (and-left (inside (r .fixed) w) (inside w (r .possible)) h) in
     let wp = inside-sub w (r .possible) (and-right (inside (r .fixed) w) (inside w (r .possible)) h) in
-    let l = sub-le wp in
-    (
+    let l = sub-le wp in (
       record {
         low = λ e. fw .at e;
         high = λ e. omega (arith, wp .at e, bit-less e (r .possible) (r .fixed), s .sub .at e);
@@ -221,7 +216,7 @@ module _ (n : ℕ) (a : List Bool) where
       ∙ sym (values-append (truth a) v (openCount r) (total openCount rs))
 
   words-of : (t : List Group) (d : List ℕ) (v o : ℕ) → All (Stable n) t → T (pairwise allowed t d)
-    → valuesFrom a v (total openCount t) ≡ valuesOf n t d → overGroups (wordFrom n a) t v o ≡ d
+      → valuesFrom a v (total openCount t) ≡ valuesOf n t d → overGroups (wordFrom n a) t v o ≡ d
   unfolding wordFrom openCount
   words-of [] [] v o s h e = refl
   words-of [] (w ∷ ws) v o s h e = absurd h
@@ -230,16 +225,16 @@ module _ (n : ℕ) (a : List Bool) where
       let k : ℕ = openCount r in
       let q = allowed-holding n r w (s .0) (and-left (allowed r w) (pairwise allowed rs ws) h) in
       let p =
-        append-iff (valuesFrom a v k) (valuesFrom a (v + k) (total openCount rs)) (openValues n (openOf r) w) (valuesOf n rs ws)
-        (values-length (truth a) v k ∙ sym (openValues-length n (openOf r) w (open-lt n r (s .0)))) .0
-        (sym (values-append (truth a) v k (total openCount rs)) ∙ e) in
+      append-iff (valuesFrom a v k) (valuesFrom a (v + k) (total openCount rs)) (openValues n (openOf r) w) (valuesOf n rs ws)
+      (values-length (truth a) v k ∙ sym (openValues-length n (openOf r) w (open-lt n r (s .0)))) .0
+      (sym (values-append (truth a) v k (total openCount rs)) ∙ e) in
       ap₂ (λ (x : ℕ) (xs : List ℕ). x ∷ xs)
       (row-of (truth a) n (r .fixed) (openOf r) v w (fixed-lt n r (s .0)) (open-lt n r (s .0)) (q .1) (open-apart n r (s .0)) (q .0) (p .0))
       (words-of rs ws (v + k) (o + outputsOf r) (s .1) (and-right (allowed r w) (pairwise allowed rs ws) h) (p .1))
 
   groups-iff : (t : List Group) (v o : ℕ) → All (Stable n) t
-    → T (every (allTrue a) (overGroups clausesFrom t v o))
-    ↔ ((valuesFrom a o (total outputsOf t) ≡ fillAll t (valuesFrom a v (total openCount t))) × T (pairwise allowed t (overGroups (wordFrom n a) t v o)))
+      → T (every (allTrue a) (overGroups clausesFrom t v o))
+      ↔ ((valuesFrom a o (total outputsOf t) ≡ fillAll t (valuesFrom a v (total openCount t))) × T (pairwise allowed t (overGroups (wordFrom n a) t v o)))
   groups-iff [] v o s = (λ t. (refl, tt), λ h. tt)
   groups-iff (r ∷ rs) v o s =
       let k : ℕ = openCount r in
@@ -253,21 +248,20 @@ module _ (n : ℕ) (a : List Bool) where
       let c = T-and (allTrue a (clausesFrom r v o)) (every (allTrue a) (overGroups clausesFrom rs (v + k) (o + j))) in
       let w = T-and (allowed r (wordFrom n a r v o)) (pairwise allowed rs (overGroups (wordFrom n a) rs (v + k) (o + j))) in
       let z =
-        append-iff (valuesFrom a o j) (valuesFrom a (o + j) (total outputsOf rs)) (fillOf r xs) (fillAll rs ys)
-        (values-length (truth a) o j ∙ sym (length-fillOf r xs)) in
+      append-iff (valuesFrom a o j) (valuesFrom a (o + j) (total outputsOf rs)) (fillOf r xs) (fillAll rs ys)
+      (values-length (truth a) o j ∙ sym (length-fillOf r xs)) in
       let ours : valuesFrom a o (j + total outputsOf rs) ≡ valuesFrom a o j ++ valuesFrom a (o + j) (total outputsOf rs) =
-        values-append (truth a) o j (total outputsOf rs) in
+      values-append (truth a) o j (total outputsOf rs) in
       let theirs : fillAll (r ∷ rs) (valuesFrom a v (k + total openCount rs)) ≡ fillOf r xs ++ fillAll rs ys =
-        ap (fillAll (r ∷ rs)) (values-append (truth a) v k (total openCount rs))
-        ∙ ap₂ (λ (p q : List Bool). fillOf r p ++ fillAll rs q) (take-at xs ys k len) (drop-at xs ys k len) in
-      (
+      ap (fillAll (r ∷ rs)) (values-append (truth a) v k (total openCount rs))
+      ∙ ap₂ (λ (p q : List Bool). fillOf r p ++ fillAll rs q) (take-at xs ys k len) (drop-at xs ys k len) in (
         λ t. let p = c .0 t in
-        let q = g .0 (p .0) in
-        let u = b .0 (p .1) in
-        (ours ∙ z .1 (q .0, u .0) ∙ sym theirs, w .1 (l .1 (q .1), u .1)),
+            let q = g .0 (p .0) in
+            let u = b .0 (p .1) in
+            (ours ∙ z .1 (q .0, u .0) ∙ sym theirs, w .1 (l .1 (q .1), u .1)),
         λ h. let p = z .0 (sym ours ∙ h .0 ∙ theirs) in
-        let q = w .0 (h .1) in
-        c .1 (g .1 (p .0, l .0 (q .0)), b .1 (p .1, q .1)),
+            let q = w .0 (h .1) in
+            c .1 (g .1 (p .0, l .0 (q .0)), b .1 (p .1, q .1)),
       )
 
 -- ---- constraints
@@ -290,7 +284,7 @@ module _ (m : Model) (a : List Bool) where
 
   -- a constraint's clauses for one entrant
   entrant-true : (c : Constraint) (e : ℕ) → T (between 1 6 (c .code))
-    → allTrue a (clausesAt (tableOf m) c e) ≡ meaningAt (c .code) (c .count) (λ i. termTrue a (membership (tableOf m) e (getD (c .groups) i 0)))
+      → allTrue a (clausesAt (tableOf m) c e) ≡ meaningAt (c .code) (c .count) (λ i. termTrue a (membership (tableOf m) e (getD (c .groups) i 0)))
   unfolding clausesAt clausesOf
   entrant-true c e t =
       let cs = memberClauses (c .code) (c .count) in
@@ -309,7 +303,7 @@ module _ (m : Model) (a : List Bool) where
       one (Neg i) = unfold termOf ofGroup in opposite-true a (membership (tableOf m) e (getD (c .groups) i 0))
 
   constraint-true : (c : Constraint) → T (constraintInRange (m .s) c) → limits .members ≤ length (c .groups)
-    → allTrue a (constraintClauses (m .n) (tableOf m) c) ≡ constraintTrue (groupsBy m a) c
+      → allTrue a (constraintClauses (m .n) (tableOf m) c) ≡ constraintTrue (groupsBy m a) c
   unfolding constraintClauses constraintTrue groupsOf
   constraint-true c t wide =
       every-each (clauseTrue a) (clausesAt (tableOf m) c) (range 0 (m .n))
@@ -365,7 +359,7 @@ module _ (m : Model) (r : T (inRange m)) (fix : T (isFixpoint m)) (z : Sized m) 
       ∙ numbered (wordFrom (m .n) a) (tableOf m)
     where
       term-row : (g e : ℕ)
-        → termTrue a (membership (tableOf m) e g) ≡ inRow (truth a) (groupAt (tableOf m) g .fixed) (openOf (groupAt (tableOf m) g)) (firstVariable (tableOf m) g) e
+          → termTrue a (membership (tableOf m) e g) ≡ inRow (truth a) (groupAt (tableOf m) g .fixed) (openOf (groupAt (tableOf m) g)) (firstVariable (tableOf m) g) e
       term-row g e = unfold membership variableOf in
           go (has (groupAt (tableOf m) g .fixed) e) refl (has (groupAt (tableOf m) g .possible) e) refl
         where
@@ -379,7 +373,7 @@ module _ (m : Model) (r : T (inRange m)) (fix : T (isFixpoint m)) (z : Sized m) 
           open-has = unfold openOf in has-less (groupAt (tableOf m) g .possible) (groupAt (tableOf m) g .fixed) e
 
           go : (x : Bool) → has (groupAt (tableOf m) g .fixed) e ≡ x → (y : Bool) → has (groupAt (tableOf m) g .possible) e ≡ y
-            → termTrue a (cond x Holds (cond y (Open (Pos (firstVariable (tableOf m) g + size (o % 2 ^ e)))) Fails)) ≡ (x || (has o e && var))
+              → termTrue a (cond x Holds (cond y (Open (Pos (firstVariable (tableOf m) g + size (o % 2 ^ e)))) Fails)) ≡ (x || (has o e && var))
           go true p y q = refl
           go false p true q = sym (ap (λ (b : Bool). b && var) (open-has ∙ ap₂ (λ (u w : Bool). u && not w) q p))
           go false p false q = sym (ap (λ (b : Bool). b && var) (open-has ∙ ap₂ (λ (u w : Bool). u && not w) q p))
@@ -388,10 +382,10 @@ module _ (m : Model) (r : T (inRange m)) (fix : T (isFixpoint m)) (z : Sized m) 
   unfolding groupClauses clausesFrom opens
   clauses-are a =
       let e : allTrue a (each (groupClauses (tableOf m)) (range 1 (m .s))) ≡ every (allTrue a) (overGroups clausesFrom (tableOf m) 1 (1 + opens)) =
-        every-each (clauseTrue a) (groupClauses (tableOf m)) (range 1 (m .s))
-        ∙ sym (every-map (allTrue a) (groupClauses (tableOf m)) (range 1 (m .s)))
-        ∙ ap (λ (k : ℕ). every (allTrue a) (map (groupClauses (tableOf m)) (range 1 k))) (sym (table-length m z))
-        ∙ ap (every (allTrue a)) (numbered clausesFrom (tableOf m)) in
+      every-each (clauseTrue a) (groupClauses (tableOf m)) (range 1 (m .s))
+      ∙ sym (every-map (allTrue a) (groupClauses (tableOf m)) (range 1 (m .s)))
+      ∙ ap (λ (k : ℕ). every (allTrue a) (map (groupClauses (tableOf m)) (range 1 k))) (sym (table-length m z))
+      ∙ ap (every (allTrue a)) (numbered clausesFrom (tableOf m)) in
       (λ h. subst T e h, λ h. subst T (sym e) h)
 
   constraints-are : (a : List Bool) → allTrue a (each (constraintClauses (m .n) (tableOf m)) (constraintsOf m)) ≡ every (constraintTrue (groupsBy m a)) (constraintsOf m)
@@ -419,7 +413,7 @@ module _ (m : Model) (r : T (inRange m)) (fix : T (isFixpoint m)) (z : Sized m) 
 
   -- an assignment satisfies exactly when its outputs are filled in and its sets are a solution
   main-iff : (a : List Bool) → length a ≡ variableCount (tableOf m)
-    → T (satisfying m a) ↔ ((drop opens a ≡ fillAll (tableOf m) (take opens a)) × T (isSolution m (groupsBy m a)))
+      → T (satisfying m a) ↔ ((drop opens a ≡ fillAll (tableOf m) (take opens a)) × T (isSolution m (groupsBy m a)))
   unfolding satisfying isSolution opens
   main-iff a h =
       let gs = each (groupClauses (tableOf m)) (range 1 (m .s)) in
@@ -431,14 +425,13 @@ module _ (m : Model) (r : T (inRange m)) (fix : T (isFixpoint m)) (z : Sized m) 
       let p = output-part a h in
       let q = ap (fillAll (tableOf m)) (open-part a h) in
       let d : pairwise allowed (tableOf m) (groupsBy m a) ≡ pairwise allowed (tableOf m) (overGroups (wordFrom (m .n) a) (tableOf m) 1 (1 + opens)) =
-        ap (pairwise allowed (tableOf m)) (sets-are a) in
-      let b = T-and (pairwise allowed (tableOf m) (groupsBy m a)) (every (constraintTrue (groupsBy m a)) (constraintsOf m)) in
-      (
+      ap (pairwise allowed (tableOf m)) (sets-are a) in
+      let b = T-and (pairwise allowed (tableOf m) (groupsBy m a)) (every (constraintTrue (groupsBy m a)) (constraintsOf m)) in (
         λ t. let y = w .0 (subst T e t) in
-        let u = g .0 (clauses-are a .0 (y .0)) in
-        (sym p ∙ u .0 ∙ q, b .1 (subst T (sym d) (u .1), subst T k (y .1))),
+            let u = g .0 (clauses-are a .0 (y .0)) in
+            (sym p ∙ u .0 ∙ q, b .1 (subst T (sym d) (u .1), subst T k (y .1))),
         λ x. let y = b .0 (x .1) in
-        subst T (sym e) (w .1 (clauses-are a .1 (g .1 (p ∙ x .0 ∙ sym q, subst T d (y .0))), subst T (sym k) (y .1))),
+            subst T (sym e) (w .1 (clauses-are a .1 (g .1 (p ∙ x .0 ∙ sym q, subst T d (y .0))), subst T (sym k) (y .1))),
       )
 
   length-is : (a : List Bool) → T (isSatisfying m a) → length a ≡ variableCount (tableOf m)
@@ -454,13 +447,12 @@ module _ (m : Model) (r : T (inRange m)) (fix : T (isFixpoint m)) (z : Sized m) 
   one-for-one = record { sound = λ a h. parts a h .1; found = found′; alone = alone′ }
     where
       found′ : (d : List ℕ) → T (isSolution m d) → (a : List Bool) × T (isSatisfying m a) × (groupsBy m a ≡ d)
-      found′ d hd =
-          (
-            a,
-            and-both (eqb (length a) (variableCount (tableOf m))) (satisfying m a) (subst (λ (k : ℕ). T (eqb (length a) k)) ha (eqb-refl (length a)))
+      found′ d hd = (
+        a,
+        and-both (eqb (length a) (variableCount (tableOf m))) (satisfying m a) (subst (λ (k : ℕ). T (eqb (length a) k)) ha (eqb-refl (length a)))
             (main-iff a ha .1 (dr ∙ sym (ap (fillAll (tableOf m)) tk), subst (λ (x : List ℕ). T (isSolution m x)) (sym e) hd)),
-            e,
-          )
+        e,
+      )
         where
           xs : List Bool
           xs = valuesOf (m .n) (tableOf m) d

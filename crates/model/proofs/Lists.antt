@@ -183,10 +183,9 @@ module _ {A : Type 0} where
   append-iff [] b (y ∷ c) d e = absurd (omega arith)
   append-iff (x ∷ a) b [] d e = absurd (omega arith)
   append-iff (x ∷ a) b (y ∷ c) d e =
-      let r = append-iff a b c d (suc-inj e) in
-      (
+      let r = append-iff a b c d (suc-inj e) in (
         λ h. let s = r .0 (tail-eq-of-cons-eq h) in
-        (ap₂ (λ (u : A) (us : List A). u ∷ us) (head-eq-of-cons-eq h) (s .0), s .1),
+            (ap₂ (λ (u : A) (us : List A). u ∷ us) (head-eq-of-cons-eq h) (s .0), s .1),
         λ h. ap₂ (λ (u v : List A). u ++ v) (h .0) (h .1),
       )
 
@@ -212,7 +211,7 @@ total-const f c i (suc n) h =
     omega arith
 
 pub total-but-one : (f : ℕ → ℕ) (c k i n : ℕ) → i ≤ k → k < i + n → suc (f k) ≡ c
-  → ((j : ℕ) → i ≤ j → j < i + n → (j ≡ k → ⊥) → f j ≡ c) → suc (total f (range i n)) ≡ n * c
+    → ((j : ℕ) → i ≤ j → j < i + n → (j ≡ k → ⊥) → f j ≡ c) → suc (total f (range i n)) ≡ n * c
 total-but-one f c k i zero a b e h = absurd (omega arith)
 total-but-one f c k i (suc n) a b e h =
     go (λ (l : suc i ≤ k). total-but-one f c k (suc i) n l (omega arith) e (λ j l′ k′ d. h j (omega arith) (omega arith) d)) (decLt i k)
@@ -257,11 +256,10 @@ All P (x ∷ xs) = P x × All P xs
 module _ {A : Type 0} where
   pub all-append : (P : A → Type 0) (xs ys : List A) → All P (xs ++ ys) ↔ (All P xs × All P ys)
   all-append P [] ys = (λ h. (tt, h), λ h. h .1)
-  all-append P (x ∷ xs) ys =
-      (
-        λ h. let r = all-append P xs ys .0 (h .1) in ((h .0, r .0), r .1),
-        λ h. (h .0 .0, all-append P xs ys .1 (h .0 .1, h .1)),
-      )
+  all-append P (x ∷ xs) ys = (
+    λ h. let r = all-append P xs ys .0 (h .1) in ((h .0, r .0), r .1),
+    λ h. (h .0 .0, all-append P xs ys .1 (h .0 .1, h .1)),
+  )
 
   pub all-imp : (P Q : A → Type 0) → ((x : A) → P x → Q x) → (xs : List A) → All P xs → All Q xs
   all-imp P Q f [] h = tt

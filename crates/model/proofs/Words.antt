@@ -315,7 +315,7 @@ word-first p (suc n) = go (p (suc n)) (word-first p n)
     shifted d x y z h k = rw h (omega arith)
 
     go : (b : Bool) → wordWhere p (suc n) ≡ cond (p 0) 1 0 + 2 * wordWhere (λ e. p (suc e)) n
-      → wordWhere p (suc n) + cond b (2 ^ suc n) 0 ≡ cond (p 0) 1 0 + 2 * (wordWhere (λ e. p (suc e)) n + cond b (2 ^ n) 0)
+        → wordWhere p (suc n) + cond b (2 ^ suc n) 0 ≡ cond (p 0) 1 0 + 2 * (wordWhere (λ e. p (suc e)) n + cond b (2 ^ n) 0)
     go true ih = shifted (cond (p 0) 1 0) (wordWhere (λ e. p (suc e)) n) (2 ^ suc n) (2 ^ n) ih (omega arith)
     go false ih = shifted (cond (p 0) 1 0) (wordWhere (λ e. p (suc e)) n) 0 0 ih refl
 
