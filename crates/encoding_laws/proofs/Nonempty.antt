@@ -31,11 +31,11 @@ use Rattle.encoding_laws.proofs.Fixpoint.{Stable, in-range, table-stabl
 use Rattle.encoding_laws.proofs.Members.{members-clear, code-six, member-below}
 use Rattle.encoding_laws.proofs.Groups.{table-length, constraint-block}
 
-abbrev Filled : List Literal → Type 0
-Filled ls = T (not (isEmpty ls))
+abbrev HasLiteral : List Literal → Type 0
+HasLiteral ls = T (not (isEmpty ls))
 
 -- a clause is kept without literals only where every literal fails
-kept-filled : (ts : List Term) → (All (λ x. x ≡ Fails) ts → ⊥) → All Filled (keep ts)
+kept-filled : (ts : List Term) → (All (λ x. x ≡ Fails) ts → ⊥) → All HasLiteral (keep ts)
 unfolding keep
 kept-filled ts h = go (any holds ts) refl
   where
@@ -45,11 +45,11 @@ kept-filled ts h = go (any holds ts) refl
     fails (Fails ∷ ts) e f = (refl, fails ts e f)
     fails (Open l ∷ ts) e f = absurd (let z : _≡_ {A = ℕ} 0 1 = cc in omega arith)
 
-    some-literal : (ls : List Literal) → (ls ≡ [] → ⊥) → Filled ls
+    some-literal : (ls : List Literal) → (ls ≡ [] → ⊥) → HasLiteral ls
     some-literal [] k = absurd (k refl)
     some-literal (l ∷ ls) k = tt
 
-    go : (b : Bool) → any holds ts ≡ b → All Filled (cond b [] (literals ts ∷ []))
+    go : (b : Bool) → any holds ts ≡ b → All HasLiteral (cond b [] (literals ts ∷ []))
     go true e = tt
     go false e = (some-literal (literals ts) (λ f. h (fails ts e f)), tt)
 
@@ -109,8 +109,8 @@ module _ (t : List Group) (e : ℕ) where
       omega (arith, ap (bit e) p, bit-less e (r .possible) w, opposite-fails t e g f, q .sub .at e, bit-le e (r .possible))
 
   -- a clause whose rule changes nothing
-  clause-filled : (n : ℕ) (ls : List Literal) → All (Stable n) t → e < n → Filled ls → All (λ l. variable l - 1 < length t) ls → clauseRule n ls t ≡ t
-      → All Filled (keep (map (termOf t e) ls))
+  clause-filled : (n : ℕ) (ls : List Literal) → All (Stable n) t → e < n → HasLiteral ls → All (λ l. variable l - 1 < length t) ls → clauseRule n ls t ≡ t
+      → All HasLiteral (keep (map (termOf t e) ls))
   unfolding literalRule
   clause-filled n [] s h f g k = absurd f
   clause-filled n (l ∷ after) s h f g k = kept-filled (map (termOf t e) (l ∷ after)) no-all
@@ -127,14 +127,14 @@ module _ (t : List Group) (e : ℕ) where
 
 module _ (m : Model) (r : T (inRange m)) (fix : T (isFixpoint m)) (z : Sized m) where
   abbrev GoodConstraint : Constraint → Type 0
-  GoodConstraint c = All (λ ls. Filled ls × All (λ l. variable l - 1 < length (tableOf m)) ls) (clausesOf c)
+  GoodConstraint c = All (λ ls. HasLiteral ls × All (λ l. variable l - 1 < length (tableOf m)) ls) (clausesOf c)
 
   good : (c : Constraint) → T (constraintInRange (m .s) c) → GoodConstraint c
   unfolding clausesOf ofGroup
   good c t =
-      all-map (λ ls. Filled ls × All (λ l. variable l - 1 < length (tableOf m)) ls) (map (ofGroup (c .groups))) (memberClauses (c .code) (c .count)) .1
-      (all-imp (λ ls. Filled ls × All (λ l. variable l < memberCount (c .code) (c .count)) ls)
-      (λ ls. Filled (map (ofGroup (c .groups)) ls) × All (λ l. variable l - 1 < length (tableOf m)) (map (ofGroup (c .groups)) ls))
+      all-map (λ ls. HasLiteral ls × All (λ l. variable l - 1 < length (tableOf m)) ls) (map (ofGroup (c .groups))) (memberClauses (c .code) (c .count)) .1
+      (all-imp (λ ls. HasLiteral ls × All (λ l. variable l < memberCount (c .code) (c .count)) ls)
+      (λ ls. HasLiteral (map (ofGroup (c .groups)) ls) × All (λ l. variable l - 1 < length (tableOf m)) (map (ofGroup (c .groups)) ls))
       (λ ls h. (
         still ls (h .0),
         all-map (λ l. variable l - 1 < length (tableOf m)) (ofGroup (c .groups)) ls .1
@@ -142,7 +142,7 @@ module _ (m : Model) (r : T (inRange m)) (fix : T (isFixpoint m)) (z : Sized m) 
       ))
       (memberClauses (c .code) (c .count)) (members-clear (c .code) (c .count) (code-six (m .s) c t)))
     where
-      still : (ls : List Literal) → Filled ls → Filled (map (ofGroup (c .groups)) ls)
+      still : (ls : List Literal) → HasLiteral ls → HasLiteral (map (ofGroup (c .groups)) ls)
       still [] h = absurd h
       still (l ∷ ls) h = tt
 
@@ -151,25 +151,25 @@ module _ (m : Model) (r : T (inRange m)) (fix : T (isFixpoint m)) (z : Sized m) 
       below (Neg i) h = omega (arith, member-below (m .s) c t i h, table-length m z, in-range m r .some-group)
 
   constraint-filled : (c : Constraint) → GoodConstraint c → All (λ ls. clauseRule (m .n) ls (tableOf m) ≡ tableOf m) (clausesOf c)
-      → All Filled (constraintClauses (m .n) (tableOf m) c)
+      → All HasLiteral (constraintClauses (m .n) (tableOf m) c)
   unfolding constraintClauses clausesAt
   constraint-filled c g k =
-      all-each Filled (clausesAt (tableOf m) c) (range 0 (m .n))
-      (all-range (λ e. All Filled (clausesAt (tableOf m) c e)) 0 (m .n)
-      (λ e _ h. all-each Filled (λ ls. keep (map (termOf (tableOf m) e) ls)) (clausesOf c)
-      (all-imp (λ ls. (Filled ls × All (λ l. variable l - 1 < length (tableOf m)) ls) × (clauseRule (m .n) ls (tableOf m) ≡ tableOf m))
-      (λ ls. All Filled (keep (map (termOf (tableOf m) e) ls)))
+      all-each HasLiteral (clausesAt (tableOf m) c) (range 0 (m .n))
+      (all-range (λ e. All HasLiteral (clausesAt (tableOf m) c e)) 0 (m .n)
+      (λ e _ h. all-each HasLiteral (λ ls. keep (map (termOf (tableOf m) e) ls)) (clausesOf c)
+      (all-imp (λ ls. (HasLiteral ls × All (λ l. variable l - 1 < length (tableOf m)) ls) × (clauseRule (m .n) ls (tableOf m) ≡ tableOf m))
+      (λ ls. All HasLiteral (keep (map (termOf (tableOf m) e) ls)))
       (λ ls q. clause-filled (tableOf m) e (m .n) ls (table-stable m fix r) (omega arith) (q .0 .0) (q .0 .1) (q .1)) (clausesOf c)
-      (all-zip (λ ls. Filled ls × All (λ l. variable l - 1 < length (tableOf m)) ls) (λ ls. clauseRule (m .n) ls (tableOf m) ≡ tableOf m) (clausesOf c) g k))))
+      (all-zip (λ ls. HasLiteral ls × All (λ l. variable l - 1 < length (tableOf m)) ls) (λ ls. clauseRule (m .n) ls (tableOf m) ≡ tableOf m) (clausesOf c) g k))))
 
-  no-clauses : All Filled (constraintClauses (m .n) (tableOf m) zeroConstraint)
+  no-clauses : All HasLiteral (constraintClauses (m .n) (tableOf m) zeroConstraint)
   unfolding constraintClauses clausesAt zeroConstraint clausesOf memberClauses shortClauses
-  no-clauses = all-each Filled (clausesAt (tableOf m) zeroConstraint) (range 0 (m .n)) (all-range (λ e. All Filled (clausesAt (tableOf m) zeroConstraint e)) 0 (m .n) (λ e _ h. tt))
+  no-clauses = all-each HasLiteral (clausesAt (tableOf m) zeroConstraint) (range 0 (m .n)) (all-range (λ e. All HasLiteral (clausesAt (tableOf m) zeroConstraint e)) 0 (m .n) (λ e _ h. tt))
 
-  pub constraints-filled : All (λ c. All Filled (constraintClauses (m .n) (tableOf m) c)) (constraintsOf m)
+  pub constraints-filled : All (λ c. All HasLiteral (constraintClauses (m .n) (tableOf m) c)) (constraintsOf m)
   constraints-filled =
       all-imp (λ c. T (constraintInRange (m .s) c) × All (λ ls. clauseRule (m .n) ls (tableOf m) ≡ tableOf m) (clausesOf c))
-      (λ c. All Filled (constraintClauses (m .n) (tableOf m) c)) (λ c h. constraint-filled c (good c (h .0)) (h .1)) (constraintsOf m)
+      (λ c. All HasLiteral (constraintClauses (m .n) (tableOf m) c)) (λ c h. constraint-filled c (good c (h .0)) (h .1)) (constraintsOf m)
       (all-zip (λ c. T (constraintInRange (m .s) c)) (λ c. All (λ ls. clauseRule (m .n) ls (tableOf m) ≡ tableOf m) (clausesOf c)) (constraintsOf m)
       (every-all (constraintInRange (m .s)) (constraintsOf m) (in-range m r .constraints)) (clauses-keep m fix))
 
@@ -178,7 +178,7 @@ module _ (m : Model) (r : T (inRange m)) (fix : T (isFixpoint m)) (z : Sized m) 
   unfolding hasEmptyClause
   no-empty-clause b = go (ltb (m .s) b) refl
     where
-      none-empty : (cs : List (List Literal)) → All Filled cs → T (not (any isEmpty cs))
+      none-empty : (cs : List (List Literal)) → All HasLiteral cs → T (not (any isEmpty cs))
       none-empty [] h = tt
       none-empty ([] ∷ cs) h = absurd (h .0)
       none-empty ((l ∷ ls) ∷ cs) h = none-empty cs (h .1)
@@ -188,4 +188,4 @@ module _ (m : Model) (r : T (inRange m)) (fix : T (isFixpoint m)) (z : Sized m) 
       go true e =
           rw (constraint-block m z b (ltb-true (m .s) b e))
           (none-empty (constraintClauses (m .n) (tableOf m) (getD (constraintsOf m) (b - m .s - 1) zeroConstraint))
-          (all-getD (λ c. All Filled (constraintClauses (m .n) (tableOf m) c)) zeroConstraint no-clauses (constraintsOf m) constraints-filled (b - m .s - 1)))
+          (all-getD (λ c. All HasLiteral (constraintClauses (m .n) (tableOf m) c)) zeroConstraint no-clauses (constraintsOf m) constraints-filled (b - m .s - 1)))

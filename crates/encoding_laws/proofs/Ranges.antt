@@ -30,7 +30,7 @@ use Rattle.encoding_laws.proofs.Totalizer.{leaves-shape}
 use Rattle.encoding_laws.proofs.Counts.{outputs-count}
 use Rattle.encoding_laws.proofs.Groups.{table-length, clauses-parts}
 use Rattle.encoding_laws.proofs.Fixpoint.{Stable, table-stable}
-use Rattle.encoding_laws.proofs.Whole.{Limits, limits-of, counted-pos}
+use Rattle.encoding_laws.proofs.Whole.{OpenLimits, limits-of, counted-pos}
 
 -- ---- variables lo ≤ v < hi
 
@@ -153,7 +153,7 @@ module _ (n : ℕ) (t : List Group) (s : All (Stable n) t) where
       r : Group
       r = groupAt t g
 
-      l : Limits r
+      l : OpenLimits r
       l = limits-of n r (unfold groupAt in all-at (Stable n) zeroGroup t s (g - 1) h)
 
       go : (b : Bool) → counted r ≡ b → InAll 1 hi (cond b (totalizerClauses (openCount r) (firstVariable t g) (firstOutput t g) (atLeast r) (atMost r)) [])

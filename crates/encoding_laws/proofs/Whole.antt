@@ -43,18 +43,25 @@ use Rattle.encoding_laws.proofs.Row.{inRow, rowWord, openValues, Apart,
 
 -- ---- one group
 
-pub record Limits (r : Group) : Type 0 where
+-- L and U of a stable group
+pub record OpenLimits (r : Group) : Type 0 where
   pub low-open : atLeast r ≤ openCount r
   pub high-open : atMost r ≤ openCount r
   pub low-high : atLeast r ≤ atMost r
   pub low-is : atLeast r + size (r .fixed) ≡ r .low
   pub high-is : atMost r + size (r .fixed) ≡ r .high
 
-pub limits-of : (n : ℕ) (r : Group) → Stable n r → Limits r
+pub limits-of : (n : ℕ) (r : Group) → Stable n r → OpenLimits r
 unfolding atLeast atMost openCount openOf
 limits-of n r s =
     let e = size-less (r .possible) (r .fixed) (s .sub) in
-    record { low-open = omega (arith, s .low-fixed, s .order, s .high-possible); high-open = omega (arith, s .low-fixed, s .order, s .high-possible); low-high = omega (arith, s .order); low-is = omega (arith, s .low-fixed); high-is = omega (arith, s .low-fixed, s .order) }
+    record {
+      low-open = omega (arith, s .low-fixed, s .order, s .high-possible);
+      high-open = omega (arith, s .low-fixed, s .order, s .high-possible);
+      low-high = omega (arith, s .order);
+      low-is = omega (arith, s .low-fixed);
+      high-is = omega (arith, s .low-fixed, s .order);
+    }
 
 pub counted-pos : (L U m : ℕ) → L ≤ m → T (ltb 0 L || ltb U m) → 1 ≤ m
 counted-pos L U m h t = go (decLt 0 L)
@@ -118,7 +125,7 @@ module _ (n : ℕ) (a : List Bool) (r : Group) (v o : ℕ) (s : Stable n r) wher
       x : ℕ
       x = count (valuesFrom a v m)
 
-      l : Limits r
+      l : OpenLimits r
       l = limits-of n r s
 
       hx : x ≤ m
@@ -176,6 +183,24 @@ allowed-holding n r w s t =
       },
       omega (arith, s .bound),
     )
+
+-- a group's term for an entrant, by the group's words
+member-true : (a : List Bool) (t : List Group) (g e : ℕ)
+    → termTrue a (membership t e g) ≡ inRow (truth a) (groupAt t g .fixed) (openOf (groupAt t g)) (firstVariable t g) e
+unfolding membership variableOf openOf
+member-true a t g e = go (has (r .fixed) e) refl (has (r .possible) e) refl
+  where
+    r : Group
+    r = groupAt t g
+
+    x : ℕ
+    x = firstVariable t g + size (openOf r % 2 ^ e)
+
+    go : (f : Bool) → has (r .fixed) e ≡ f → (p : Bool) → has (r .possible) e ≡ p
+        → termTrue a (cond f Holds (cond p (Open (Pos x)) Fails)) ≡ (f || (has (openOf r) e && truth a x))
+    go true k p q = refl
+    go false k true q = sym (ap (λ (b : Bool). b && truth a x) (has-less (r .possible) (r .fixed) e ∙ ap₂ (λ (u w : Bool). u && not w) q k))
+    go false k false q = sym (ap (λ (b : Bool). b && truth a x) (has-less (r .possible) (r .fixed) e ∙ ap₂ (λ (u w : Bool). u && not w) q k))
 
 -- ---- all groups
 
@@ -353,30 +378,13 @@ module _ (m : Model) (r : T (inRange m)) (fix : T (isFixpoint m)) (z : Sized m) 
   sets-are : (a : List Bool) → groupsBy m a ≡ overGroups (wordFrom (m .n) a) (tableOf m) 1 (1 + opens)
   unfolding groupsBy groupBy wordFrom rowWord opens
   sets-are a =
+      let t = tableOf m in
       ap (map (groupBy m a)) (ap (range 1) (sym (table-length m z)))
-      ∙ values-make (groupBy m a) (λ g. wordFrom (m .n) a (groupAt (tableOf m) g) (firstVariable (tableOf m) g) (firstOutput (tableOf m) g)) 1 1
-      (length (tableOf m)) (λ k h. word-ext (λ e. termTrue a (membership (tableOf m) e (1 + k))) (inRow (truth a) (groupAt (tableOf m) (1 + k) .fixed) (openOf (groupAt (tableOf m) (1 + k))) (firstVariable (tableOf m) (1 + k))) (m .n) (λ e l. term-row (1 + k) e))
-      ∙ numbered (wordFrom (m .n) a) (tableOf m)
-    where
-      term-row : (g e : ℕ)
-          → termTrue a (membership (tableOf m) e g) ≡ inRow (truth a) (groupAt (tableOf m) g .fixed) (openOf (groupAt (tableOf m) g)) (firstVariable (tableOf m) g) e
-      term-row g e = unfold membership variableOf in
-          go (has (groupAt (tableOf m) g .fixed) e) refl (has (groupAt (tableOf m) g .possible) e) refl
-        where
-          o : ℕ
-          o = openOf (groupAt (tableOf m) g)
-
-          var : Bool
-          var = truth a (firstVariable (tableOf m) g + size (o % 2 ^ e))
-
-          open-has : has o e ≡ (has (groupAt (tableOf m) g .possible) e && not (has (groupAt (tableOf m) g .fixed) e))
-          open-has = unfold openOf in has-less (groupAt (tableOf m) g .possible) (groupAt (tableOf m) g .fixed) e
-
-          go : (x : Bool) → has (groupAt (tableOf m) g .fixed) e ≡ x → (y : Bool) → has (groupAt (tableOf m) g .possible) e ≡ y
-              → termTrue a (cond x Holds (cond y (Open (Pos (firstVariable (tableOf m) g + size (o % 2 ^ e)))) Fails)) ≡ (x || (has o e && var))
-          go true p y q = refl
-          go false p true q = sym (ap (λ (b : Bool). b && var) (open-has ∙ ap₂ (λ (u w : Bool). u && not w) q p))
-          go false p false q = sym (ap (λ (b : Bool). b && var) (open-has ∙ ap₂ (λ (u w : Bool). u && not w) q p))
+      ∙ values-make (groupBy m a) (λ g. wordFrom (m .n) a (groupAt t g) (firstVariable t g) (firstOutput t g)) 1 1 (length t)
+      (λ k h. let r = groupAt t (1 + k) in
+      word-ext (λ e. termTrue a (membership t e (1 + k))) (inRow (truth a) (r .fixed) (openOf r) (firstVariable t (1 + k))) (m .n)
+      (λ e l. member-true a t (1 + k) e))
+      ∙ numbered (wordFrom (m .n) a) t
 
   clauses-are : (a : List Bool) → T (allTrue a (each (groupClauses (tableOf m)) (range 1 (m .s)))) ↔ T (every (allTrue a) (overGroups clausesFrom (tableOf m) 1 (1 + opens)))
   unfolding groupClauses clausesFrom opens
