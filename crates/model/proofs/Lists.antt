@@ -1,16 +1,16 @@
 -- Laws of the definitions' lists: tests, ranges, sums, places. Assumes nothing.
 use mathlib.Core.Path.{_≡_, refl, sym, ap, ap₂, _∙_, subst}
 use mathlib.Core.Logic.{_↔_}
-use Prim.Native.Nat.{ℕ, zero, suc, _+_, _-_, _≤_, _<_, min}
-use native.Mathlib.Nat.{add-zero, add-suc, add-assoc}
+use Prim.Native.Nat.{ℕ, zero, suc, _+_, _-_, _*_, _≤_, _<_, suc-le-suc}
+use native.Mathlib.Nat.{add-zero, zero-add, add-suc, suc-add, suc-inj, suc-mul, add-assoc, le-of-suc-le-suc}
 use native.Mathlib.Omega.{arith}
 use native.Mathlib.Decide.{decLt, ℕ-discrete}
 use mathlib.Core.Bool.{Bool, true, false, not, _&&_, _||_}
-use mathlib.Core.List.{List, [], _∷_, _++_, map, append-assoc, List·Memᴰ, List·Memᴰ·head, List·Memᴰ·tail, List·Permᴰ, List·Permᴰ·nil, List·Permᴰ·cons, List·Permᴰ·swap, List·Permᴰ·trans}
+use mathlib.Core.List.{List, [], _∷_, _++_, map, append-assoc, head-eq-of-cons-eq, tail-eq-of-cons-eq, List·Memᴰ, List·Memᴰ·head, List·Memᴰ·tail, List·Permᴰ, List·Permᴰ·nil, List·Permᴰ·cons, List·Permᴰ·swap, List·Permᴰ·trans}
 use lib.Dec.{T}
 use lib.ListN.{length, getD, set, take, drop, length-append, length-take}
 use lib.Seq.{sets, sets-eq, take-at}
-use Rattle.model.specs.Lists.{every, any, pairwise, each, total, range, onPlace}
+use Rattle.model.specs.Lists.{every, any, pairwise, those, each, total, range, onPlace}
 
 -- ---- tests as facts
 
@@ -96,13 +96,13 @@ range-length a zero = refl
 range-length a (suc k) = ap suc (range-length (suc a) k)
 
 pub range-append : (a j k : ℕ) → range a (j + k) ≡ range a j ++ range (a + j) k
-range-append a zero k = rw (native.Mathlib.Nat.zero-add k, add-zero a)
+range-append a zero k = rw (zero-add k, add-zero a)
 range-append a (suc j) k =
-    rw (native.Mathlib.Nat.suc-add j k, range-append (suc a) j k, native.Mathlib.Nat.suc-add a j, add-suc a j)
+    rw (suc-add j k, range-append (suc a) j k, suc-add a j, add-suc a j)
 
 pub range-last : (a k : ℕ) → range a (suc k) ≡ range a k ++ ((a + k) ∷ [])
 range-last a zero = rw (add-zero a)
-range-last a (suc k) = ap (λ (l : List ℕ). a ∷ l) (range-last (suc a) k ∙ rw (native.Mathlib.Nat.suc-add a k, add-suc a k))
+range-last a (suc k) = ap (λ (l : List ℕ). a ∷ l) (range-last (suc a) k ∙ rw (suc-add a k, add-suc a k))
 
 pub every-range : (p : ℕ → Bool) (a k : ℕ) → T (every p (range a k)) → (i : ℕ) → a ≤ i → i < a + k → T (p i)
 every-range p a zero t i l h = absurd (omega arith)
@@ -244,7 +244,7 @@ take-places d l k h = from l k 0 (λ i. getD l i d) h (λ i. ap (λ (j : ℕ). g
     from [] (suc k) a g h e = absurd (omega arith)
     from (x ∷ l) (suc k) a g h e =
         ap₂ {C = List _} (λ y m. y ∷ m) (sym (e 0) ∙ ap g (add-zero a))
-        (from l k (suc a) g (omega arith) (λ i. ap g (native.Mathlib.Nat.suc-add a i ∙ sym (add-suc a i)) ∙ e (suc i)))
+        (from l k (suc a) g (omega arith) (λ i. ap g (suc-add a i ∙ sym (add-suc a i)) ∙ e (suc i)))
 
 -- a permutation has the same elements
 pub perm-mem {ℓ} : {A : Type ℓ} {l m : List A} {a : A} → List·Permᴰ l m → List·Memᴰ a l → List·Memᴰ a m
@@ -327,3 +327,183 @@ pub same-place : {A : Type 0} (i : ℕ) (r : A → A) (t : List A) (d : A) → i
 same-place i r [] d h e = absurd (omega arith)
 same-place zero r (x ∷ t) d h e = cc
 same-place (suc i) r (x ∷ t) d h e = same-place i r t d (omega arith) (cc)
+
+-- ---- the values of a function along a range
+
+module _ {A : Type 0} where
+  pub values-get : (f g : ℕ → A) (i j n : ℕ) → map f (range i n) ≡ map g (range j n) → (k : ℕ) → k < n → f (i + k) ≡ g (j + k)
+  values-get f g i j zero e k h = absurd (omega arith)
+  values-get f g i j (suc n) e zero h = rw (add-zero i, add-zero j) (head-eq-of-cons-eq e)
+  values-get f g i j (suc n) e (suc k) h =
+      rw (add-suc i k, ← suc-add i k, add-suc j k, ← suc-add j k)
+      (values-get f g (suc i) (suc j) n (tail-eq-of-cons-eq e) k (le-of-suc-le-suc h))
+
+  pub values-make : (f g : ℕ → A) (i j n : ℕ) → ((k : ℕ) → k < n → f (i + k) ≡ g (j + k)) → map f (range i n) ≡ map g (range j n)
+  values-make f g i j zero h = refl
+  values-make f g i j (suc n) h =
+      ap₂ (λ (x : A) (xs : List A). x ∷ xs) (rw (add-zero i, add-zero j) at (h zero (omega arith)))
+      (values-make f g (suc i) (suc j) n
+      (λ k l. rw (add-suc i k, ← suc-add i k, add-suc j k, ← suc-add j k) at (h (suc k) (suc-le-suc l))))
+
+  pub values-append : (f : ℕ → A) (i m n : ℕ) → map f (range i (m + n)) ≡ map f (range i m) ++ map f (range (i + m) n)
+  values-append f i zero n = rw (zero-add n, add-zero i)
+  values-append f i (suc m) n = rw (suc-add m n, values-append f (suc i) m n, suc-add i m, add-suc i m)
+
+  pub values-length : (f : ℕ → A) (i n : ℕ) → length (map f (range i n)) ≡ n
+  values-length f i zero = refl
+  values-length f i (suc n) = ap suc (values-length f (suc i) n)
+
+  -- two joined pairs are equal, the first parts of one length, exactly when the parts are
+  pub append-iff : (a b c d : List A) → length a ≡ length c → (a ++ b ≡ c ++ d) ↔ ((a ≡ c) × (b ≡ d))
+  append-iff [] b [] d e = (λ h. (refl, h), λ h. h .1)
+  append-iff [] b (y ∷ c) d e = absurd (omega arith)
+  append-iff (x ∷ a) b [] d e = absurd (omega arith)
+  append-iff (x ∷ a) b (y ∷ c) d e =
+      let r = append-iff a b c d (suc-inj e) in (
+        λ h. let s = r .0 (tail-eq-of-cons-eq h) in
+            (ap₂ (λ (u : A) (us : List A). u ∷ us) (head-eq-of-cons-eq h) (s .0), s .1),
+        λ h. ap₂ (λ (u v : List A). u ++ v) (h .0) (h .1),
+      )
+
+-- ---- sums along a range
+
+pub total-ext : {A : Type 0} (f g : A → ℕ) → ((x : A) → f x ≡ g x) → (xs : List A) → total f xs ≡ total g xs
+total-ext f g h [] = refl
+total-ext f g h (x ∷ xs) = ap₂ (λ (a b : ℕ). a + b) (h x) (total-ext f g h xs)
+
+pub total-map : {A B : Type 0} (f : B → ℕ) (g : A → B) (xs : List A) → total f (map g xs) ≡ total (λ x. f (g x)) xs
+total-map f g [] = refl
+total-map f g (x ∷ xs) = ap (λ (n : ℕ). f (g x) + n) (total-map f g xs)
+
+pub total-add : {A : Type 0} (f g : A → ℕ) (xs : List A) → total (λ x. f x + g x) xs ≡ total f xs + total g xs
+total-add f g [] = refl
+total-add f g (x ∷ xs) = omega (arith, total-add f g xs)
+
+pub total-const : (f : ℕ → ℕ) (c i n : ℕ) → ((j : ℕ) → i ≤ j → j < i + n → f j ≡ c) → total f (range i n) ≡ n * c
+total-const f c i zero h = omega arith
+total-const f c i (suc n) h =
+    let e = h i (omega arith) (omega arith) in
+    let r = total-const f c (suc i) n (λ j l k. h j (omega arith) (omega arith)) in
+    omega arith
+
+pub total-but-one : (f : ℕ → ℕ) (c k i n : ℕ) → i ≤ k → k < i + n → suc (f k) ≡ c
+    → ((j : ℕ) → i ≤ j → j < i + n → (j ≡ k → ⊥) → f j ≡ c) → suc (total f (range i n)) ≡ n * c
+total-but-one f c k i zero a b e h = absurd (omega arith)
+total-but-one f c k i (suc n) a b e h =
+    go (λ (l : suc i ≤ k). total-but-one f c k (suc i) n l (omega arith) e (λ j l′ k′ d. h j (omega arith) (omega arith) d)) (decLt i k)
+  where
+    go : (suc i ≤ k → suc (total f (range (suc i) n)) ≡ n * c) → Dec (i < k) → suc (total f (range i (suc n))) ≡ suc n * c
+    go rest (yes l) = let e′ = h i (omega arith) (omega arith) (omega arith) in let r = rest l in omega arith
+    go rest (no l) =
+        let ik : i ≡ k = omega arith in
+        let e′ : suc (f i) ≡ c = rw ik e in
+        let r = total-const f c (suc i) n (λ j l k. h j (omega arith) (omega arith) (omega arith)) in
+        omega arith
+
+-- ---- a list's elements in order
+
+-- the elements, by their numbers from k on
+pub places : {A : Type 0} (k : ℕ) (xs : List A) (d : A) → map (λ i. getD xs (i - k) d) (range k (length xs)) ≡ xs
+places k xs d =
+    values-make (λ i. getD xs (i - k) d) (λ i. getD xs i d) k 0 (length xs) (λ j h. ap (λ (n : ℕ). getD xs n d) (omega arith))
+    ∙ from-first xs
+  where
+    from-first : (xs : List _) → map (λ i. getD xs i d) (range 0 (length xs)) ≡ xs
+    from-first [] = refl
+    from-first (x ∷ xs) =
+        ap {B = List _} (λ l. x ∷ l)
+        (values-make (λ i. getD (x ∷ xs) i d) (λ i. getD xs i d) 1 0 (length xs) (λ j h. rw (suc-add 0 j, zero-add j)) ∙ from-first xs)
+
+pub each-map : {A B C : Type 0} (f : B → List C) (g : A → B) (xs : List A) → each f (map g xs) ≡ each (λ x. f (g x)) xs
+each-map f g [] = refl
+each-map f g (x ∷ xs) = ap (λ l. f (g x) ++ l) (each-map f g xs)
+
+pub each-range-ext : {B : Type 0} (f g : ℕ → List B) (i n : ℕ) → ((j : ℕ) → i ≤ j → j < i + n → f j ≡ g j) → each f (range i n) ≡ each g (range i n)
+each-range-ext f g i zero h = refl
+each-range-ext {B} f g i (suc n) h =
+    ap₂ (λ (a b : List B). a ++ b) (h i (omega arith) (omega arith)) (each-range-ext f g (suc i) n (λ j l k. h j (omega arith) (omega arith)))
+
+-- ---- facts of every element, by place and by range
+
+module _ {A : Type 0} where
+  pub all-both : (P : A → Type 0) (xs ys : List A) → All P (xs ++ ys) ↔ (All P xs × All P ys)
+  all-both P xs ys = (λ h. (all-left P xs ys h, all-right P xs ys h), λ h. all-append P xs ys (h .0) (h .1))
+
+  pub all-map-iff : {B : Type 0} (P : A → Type 0) (f : B → A) (xs : List B) → All P (map f xs) ↔ All (λ x. P (f x)) xs
+  all-map-iff P f xs = (map-all P f xs, all-map P f xs)
+
+  pub all-imp : (P Q : A → Type 0) → ((x : A) → P x → Q x) → (xs : List A) → All P xs → All Q xs
+  all-imp P Q f [] h = tt
+  all-imp P Q f (x ∷ xs) h = (f x (h .0), all-imp P Q f xs (h .1))
+
+  pub all-zip : (P Q : A → Type 0) (xs : List A) → All P xs → All Q xs → All (λ x. P x × Q x) xs
+  all-zip P Q [] h k = tt
+  all-zip P Q (x ∷ xs) h k = ((h .0, k .0), all-zip P Q xs (h .1) (k .1))
+
+  pub all-getD : (P : A → Type 0) (d : A) → P d → (xs : List A) → All P xs → (i : ℕ) → P (getD xs i d)
+  all-getD P d pd [] h i = pd
+  all-getD P d pd (x ∷ xs) h zero = h .0
+  all-getD P d pd (x ∷ xs) h (suc i) = all-getD P d pd xs (h .1) i
+
+  pub all-place : (P : A → Type 0) (d : A) (xs : List A) → All P xs → (i : ℕ) → i < length xs → P (getD xs i d)
+  all-place P d [] h i l = absurd (omega arith)
+  all-place P d (x ∷ xs) h zero l = h .0
+  all-place P d (x ∷ xs) h (suc i) l = all-place P d xs (h .1) i (omega arith)
+
+  pub all-each : {B : Type 0} (P : A → Type 0) (f : B → List A) (xs : List B) → All (λ x. All P (f x)) xs → All P (each f xs)
+  all-each P f [] h = tt
+  all-each P f (x ∷ xs) h = all-append P (f x) (each f xs) (h .0) (all-each P f xs (h .1))
+
+pub range-all : (P : ℕ → Type 0) (i n : ℕ) → ((j : ℕ) → i ≤ j → j < i + n → P j) → All P (range i n)
+range-all P i zero h = tt
+range-all P i (suc n) h = (h i (omega arith) (omega arith), range-all P (suc i) n (λ j l k. h j (omega arith) (omega arith)))
+
+pub place-getD : {A : Type 0} (i : ℕ) (r : A → A) (t : List A) (d : A) → i < length t → getD (onPlace i r t) i d ≡ r (getD t i d)
+place-getD i r [] d h = absurd (omega arith)
+place-getD zero r (x ∷ xs) d h = refl
+place-getD (suc i) r (x ∷ xs) d h = place-getD i r xs d (omega arith)
+
+pub every-range-ext : (p q : ℕ → Bool) (i n : ℕ) → ((j : ℕ) → i ≤ j → j < i + n → p j ≡ q j) → every p (range i n) ≡ every q (range i n)
+every-range-ext p q i zero h = refl
+every-range-ext p q i (suc n) h =
+    ap₂ (λ (x y : Bool). x && y) (h i (omega arith) (omega arith)) (every-range-ext p q (suc i) n (λ j l k. h j (omega arith) (omega arith)))
+
+pub every-all-ext : {A : Type 0} (p q : A → Bool) (xs : List A) → All (λ x. p x ≡ q x) xs → every p xs ≡ every q xs
+every-all-ext p q [] h = refl
+every-all-ext p q (x ∷ xs) h = ap₂ (λ (a b : Bool). a && b) (h .0) (every-all-ext p q xs (h .1))
+
+pub getD-map-in : {A B : Type 0} (f : A → B) (xs : List A) (i : ℕ) (d : A) (e : B) → i < length xs → getD (map f xs) i e ≡ f (getD xs i d)
+getD-map-in f [] i d e h = absurd (omega arith)
+getD-map-in f (x ∷ xs) zero d e h = refl
+getD-map-in f (x ∷ xs) (suc i) d e h = getD-map-in f xs i d e (omega arith)
+
+pub range-getD : (a k i d : ℕ) → i < k → getD (range a k) i d ≡ a + i
+range-getD a zero i d h = absurd (omega arith)
+range-getD a (suc k) zero d h = sym (add-zero a)
+range-getD a (suc k) (suc i) d h = range-getD (suc a) k i d (omega arith) ∙ omega arith
+
+pub total-place : {A : Type 0} (f : A → ℕ) (t : List A) (i : ℕ) (d : A) → i < length t → total f (take i t) + f (getD t i d) ≤ total f t
+total-place f [] i d h = absurd (omega arith)
+total-place f (x ∷ xs) zero d h = omega arith
+total-place f (x ∷ xs) (suc i) d h = omega (arith, total-place f xs i d (omega arith))
+
+pub total-le : {A : Type 0} (f : A → ℕ) (c : ℕ) (xs : List A) → All (λ x. f x ≤ c) xs → total f xs ≤ length xs * c
+total-le f c [] h = omega arith
+total-le f c (x ∷ xs) h = omega (arith, h .0, total-le f c xs (h .1), suc-mul (length xs) c)
+
+pub those-all : {A : Type 0} (p : A → Bool) (xs : List A) → All (λ x. T (p x)) xs → those p xs ≡ xs
+those-all p [] h = refl
+those-all p (x ∷ xs) h = rw (T-true (p x) (h .0), those) (ap {B = List _} (λ l. x ∷ l) (those-all p xs (h .1)))
+
+pub total-mono : {A : Type 0} (f g : A → ℕ) (xs : List A) → All (λ x. f x ≤ g x) xs → total f xs ≤ total g xs
+total-mono f g [] h = omega arith
+total-mono f g (x ∷ xs) h = omega (arith, h .0, total-mono f g xs (h .1))
+
+pub each-all : {A B : Type 0} (P : B → Type 0) (f : A → List B) (xs : List A) → All P (each f xs) → All (λ x. All P (f x)) xs
+each-all P f [] h = tt
+each-all P f (x ∷ xs) h = let s = all-both P (f x) (each f xs) .0 h in (s .0, each-all P f xs (s .1))
+
+pub any-range-ext : (p q : ℕ → Bool) (i n : ℕ) → ((j : ℕ) → i ≤ j → j < i + n → p j ≡ q j) → any p (range i n) ≡ any q (range i n)
+any-range-ext p q i zero h = refl
+any-range-ext p q i (suc n) h =
+    ap₂ (λ (x y : Bool). x || y) (h i (omega arith) (omega arith)) (any-range-ext p q (suc i) n (λ j l k. h j (omega arith) (omega arith)))

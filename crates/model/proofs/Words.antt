@@ -1,17 +1,18 @@
 -- Laws of words as sets, over every width: bits of each operation, inclusion and its orders, the number of ones. Bits are the numbers 0 and 1, so that
 -- omega reasons about them. Assumes nothing.
-use mathlib.Core.Path.{_≡_, refl, sym, ap, _∙_, subst}
+use mathlib.Core.Path.{_≡_, refl, sym, ap, ap₂, _∙_, subst}
 use Prim.Native.Nat.{ℕ, zero, suc, _+_, _-_, _*_, _/_, _%_, _^_, _≤_, _<_, min, max}
 use native.Mathlib.Nat.{le-refl, le-trans, le-antisymm, div-add-mod', div-one, div-div-eq-div-mul, pow-zero, pow-suc, pow-succ'}
 use native.Mathlib.Omega.{arith}
 use native.Mathlib.Decide.{decLt}
+use native.Mathlib.Numerals.{add-one}
 use mathlib.Core.Bool.{Bool, true, false, cond, not, _&&_, _||_}
 use borrow.Author.Tests.{eqb-true, eqb-false}
 use lib.Dec.{T, eqb, eqb→eq, eqb-refl}
 use lib.Arith.{bin-ind, digits-div, digits-mod}
 use lib.Bits.{bitAnd, bitOr, bitXor, differ, and-step, or-step, xor-step}
 use lib.Count.{ones, ones-step, ones-le}
-use lib.Pow.{pow-pos}
+use lib.Pow.{pow-pos, mod-pow-add}
 use Rattle.model.specs.Words.{full, less, sizeIn, size, inside, bit, has, wordWhere}
 
 -- ---- a bit
@@ -364,3 +365,74 @@ where-sub p q n h = has-sub (wordWhere p n) (wordWhere q n) (λ e. go e (decLt e
     go : (e : ℕ) → Dec (e < n) → T (has (wordWhere p n) e) → T (has (wordWhere q n) e)
     go e (yes l) t = rw (has-where q n e l) (h e (rw (has-where p n e l) at t))
     go e (no f) t = absurd (rw (has-past n (wordWhere p n) e (where-lt p n) (omega arith)) at t)
+
+-- ---- more of bits and words
+
+pub has-one : (w e : ℕ) → has w e ≡ true → bit e w ≡ 1
+unfolding has
+has-one w e h = eqb-true (bit e w) 1 h
+
+pub has-none : (w e : ℕ) → has w e ≡ false → bit e w ≡ 0
+unfolding has
+has-none w e h = let k = eqb-false (bit e w) 1 h in omega (arith, bit-le e w)
+
+pub one-has : (w e : ℕ) → bit e w ≡ 1 → has w e ≡ true
+unfolding has
+one-has w e h = rw h
+
+bools : (P : ℕ → ℕ → Type 0) → P 0 0 → P 0 1 → P 1 0 → P 1 1 → (x y : ℕ) → x ≤ 1 → y ≤ 1 → P x y
+bools P a b c d zero zero h k = a
+bools P a b c d zero (suc zero) h k = b
+bools P a b c d (suc zero) zero h k = c
+bools P a b c d (suc zero) (suc zero) h k = d
+bools P a b c d zero (suc (suc y)) h k = absurd (omega arith)
+bools P a b c d (suc zero) (suc (suc y)) h k = absurd (omega arith)
+bools P a b c d (suc (suc x)) y h k = absurd (omega arith)
+
+pub has-first : (w : ℕ) → has w 0 ≡ eqb (w % 2) 1
+unfolding has
+has-first w = rw (bit-first w)
+
+pub has-next : (w e : ℕ) → has w (suc e) ≡ has (w / 2) e
+unfolding has
+has-next w e = rw (bit-next e w)
+
+pub word-first : (p : ℕ → Bool) (n : ℕ) → wordWhere p (suc n) ≡ cond (p 0) 1 0 + 2 * wordWhere (λ e. p (suc e)) n
+unfolding wordWhere
+word-first p zero = go (p 0)
+  where
+    go : (b : Bool) → 0 + cond b (2 ^ 0) 0 ≡ cond b 1 0 + 2 * 0
+    go true = refl
+    go false = refl
+word-first p (suc n) = go (p (suc n)) (word-first p n)
+  where
+    shifted : (d x y z : ℕ) → wordWhere p (suc n) ≡ d + 2 * x → y ≡ 2 * z → wordWhere p (suc n) + y ≡ d + 2 * (x + z)
+    shifted d x y z h k = rw h (omega arith)
+
+    go : (b : Bool) → wordWhere p (suc n) ≡ cond (p 0) 1 0 + 2 * wordWhere (λ e. p (suc e)) n
+        → wordWhere p (suc n) + cond b (2 ^ suc n) 0 ≡ cond (p 0) 1 0 + 2 * (wordWhere (λ e. p (suc e)) n + cond b (2 ^ n) 0)
+    go true ih = shifted (cond (p 0) 1 0) (wordWhere (λ e. p (suc e)) n) (2 ^ suc n) (2 ^ n) ih (omega arith)
+    go false ih = shifted (cond (p 0) 1 0) (wordWhere (λ e. p (suc e)) n) 0 0 ih refl
+
+pub word-ext : (p q : ℕ → Bool) (n : ℕ) → ((e : ℕ) → e < n → p e ≡ q e) → wordWhere p n ≡ wordWhere q n
+unfolding wordWhere
+word-ext p q zero h = refl
+word-ext p q (suc n) h =
+    ap₂ (λ (x y : ℕ). x + y) (word-ext p q n (λ e l. h e (omega arith))) (ap (λ (b : Bool). cond b (2 ^ n) 0) (h n (omega arith)))
+
+-- ---- the ones below a bit
+
+pub size-below : (e w : ℕ) → size (w % 2 ^ suc e) ≡ w % 2 + size (w / 2 % 2 ^ e)
+size-below e w =
+    let d : w % 2 ^ suc e ≡ (w / 2 % 2 ^ e) * 2 + w % 2 = subst (λ (k : ℕ). w % 2 ^ k ≡ (w / 2 % 2 ^ e) * 2 + w % 2) (add-one e) (mod-pow-add w e 1) in
+    size-step (w % 2 ^ suc e)
+    ∙ ap₂ (λ (x y : ℕ). x + size y) (ap (λ (x : ℕ). x % 2) d ∙ omega arith) (ap (λ (x : ℕ). x / 2) d ∙ omega arith)
+
+-- a set bit is not counted below itself
+
+-- a set bit is not counted below itself
+pub size-below-lt : (e w : ℕ) → bit e w ≡ 1 → size (w % 2 ^ e) < size w
+size-below-lt zero w h =
+    let z : w % 2 ^ 0 ≡ 0 = omega arith in
+    rw z (omega (arith, size-zero, size-step w, bit-first w))
+size-below-lt (suc e) w h = omega (arith, size-below e w, size-step w, size-below-lt e (w / 2) (sym (bit-next e w) ∙ h))

@@ -44,10 +44,11 @@ loop-less c = search needs
 
 loop-again : tie.Need-loop-again Inv-loop μ-loop
 unfolding markAt
-loop-again c = let h = (c .before .before .value .ensures) in
-    (search needs,
-    (c .before .with-bit .ensures) ∙ simp (h, (c .before .before .before .before .loop .inv) .1) (sym (word-more (λ k. eqb (markAt (c .before .before .before .before .before .before .args .line .now) k) 2) (c .before .before .before .before .loop .e))),
-    (c .with-bit2 .ensures) ∙ simp (h, (c .before .before .before .before .loop .inv) .2) (sym (word-more (λ k. not (eqb (markAt (c .before .before .before .before .before .before .args .line .now) k) 0)) (c .before .before .before .before .loop .e))))
+loop-again c = let h = (c .before .before .value .ensures) in (
+  search needs,
+  (c .before .with-bit .ensures) ∙ simp (h, (c .before .before .before .before .loop .inv) .1) (sym (word-more (λ k. eqb (markAt (c .before .before .before .before .before .before .args .line .now) k) 2) (c .before .before .before .before .loop .e))),
+  (c .with-bit2 .ensures) ∙ simp (h, (c .before .before .before .before .loop .inv) .2) (sym (word-more (λ k. not (eqb (markAt (c .before .before .before .before .before .before .args .line .now) k) 0)) (c .before .before .before .before .loop .e))),
+)
 
 value-requires-2 : tie.Need-value-requires-2 Inv-loop μ-loop
 value-requires-2 c κs = search needs

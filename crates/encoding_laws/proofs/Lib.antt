@@ -1,0 +1,17 @@
+pub mod Sized
+pub mod Truth
+pub mod Node
+pub mod Tree
+pub mod Totalizer
+pub mod Counts
+pub mod Groups
+pub mod Fixpoint
+pub mod Members
+pub mod Nonempty
+pub mod Meaning
+pub mod Row
+pub mod Whole
+pub mod Ranges
+pub mod Decimal
+pub mod Text
+pub mod Bounds

@@ -1,0 +1,500 @@
+-- The satisfying assignments and the solutions match one for one. Assumes nothing.
+use mathlib.Core.Path.{_≡_, refl, sym, ap, ap₂, _∙_, subst}
+use mathlib.Core.Logic.{_↔_}
+use mathlib.Core.Bool.{Bool, true, false, not, _&&_, _||_, cond}
+use mathlib.Core.List.{List, [], _∷_, _++_, map}
+use Prim.Native.Nat.{ℕ, zero, suc, _+_, _-_, _%_, _^_, _≤_, _<_}
+use native.Mathlib.Omega.{arith}
+use native.Mathlib.Decide.{decLt}
+use lib.Dec.{T, leb, ltb, eqb, leb→le, le→leb, ltb→lt, lt→ltb, nltb→le, eqb→eq, eqb-refl}
+use lib.Arith.{le→nltb}
+use lib.Pow.{pow-pos}
+use lib.ListN.{length, getD, take, drop, length-append, length-drop, length-map, take-append-drop}
+use lib.Seq.{drop-cons, take-all, take-at, drop-at, getD-take}
+use Rattle.model.specs.declared.Literal.{Literal}
+use Rattle.model.specs.declared.Literal.the-variants.{Pos, Neg}
+use Rattle.model.specs.declared.Term.the-variants.{Holds, Fails, Open}
+use Rattle.model.specs.declared.Group.{Group}
+use Rattle.model.specs.declared.Constraint.{Constraint}
+use Rattle.model.specs.declared.Model.{Model}
+use Rattle.model.specs.Lists.{every, any, pairwise, each, total, range, between}
+use Rattle.model.specs.Limits.{limits}
+use Rattle.model.specs.Words.{size, inside, has}
+use Rattle.model.specs.Clauses.{memberCount, memberClauses, ofGroup, groupsOf, clausesOf}
+use Rattle.model.specs.Model.{groupAt, tableOf, constraintsOf, constraintInRange, inRange}
+use Rattle.model.specs.Propagate.{isFixpoint}
+use Rattle.model.specs.Totalizer.{shape, totalizerClauses, treeOutputCount}
+use Rattle.model.specs.Cnf.{openOf, openCount, atLeast, atMost, counted, outputsOf, firstVariable, firstOutput, variableOf, variableCount, groupClauses, membership, termOf, clausesAt, constraintClauses, clauses}
+use Rattle.model.specs.Solution.{allowed, setOf, constraintTrue, isSolution}
+use Rattle.model.specs.Close.{truth, termTrue, clauseTrue, satisfying, groupBy, groupsBy}
+use Rattle.model.specs.Demand.{isAssignment, isSatisfying}
+use Rattle.model.proofs.Words.{Sub, sub-inside, inside-sub, sub-less, sub-le, size-less, bit-less, bit-le, has-less, word-ext, where-lt, has-where}
+use Rattle.model.proofs.Lists.{T-true, T-false, and-left, and-right, and-both, every-each, every-map, every-ext, any-map, any-ext, every-range-ext, every-all-ext, values-make, values-append, values-length, append-iff, All, all-imp, all-zip, all-map-iff, all-of, all-getD, every-all, getD-map-in, range-getD, range-length}
+use Rattle.encoding_laws.proofs.Sized.{Sized, membersSized}
+use Rattle.encoding_laws.proofs.Truth.{allTrue, allTrue-append, T-and, opposite-true, kept-true}
+use Rattle.encoding_laws.proofs.Tree.{count, fill, length-fill, valuesFrom, count-le}
+use Rattle.encoding_laws.proofs.Totalizer.{totalizer-iff, leaves-shape}
+use Rattle.encoding_laws.proofs.Counts.{outputs-count}
+use Rattle.encoding_laws.proofs.Groups.{table-length, clauses-parts, overGroups, numbered}
+use Rattle.encoding_laws.proofs.Fixpoint.{Stable, in-range, table-stable}
+use Rattle.encoding_laws.proofs.Members.{code-six, groups-length, member-group}
+use Rattle.encoding_laws.proofs.Meaning.{memberTrue, meaningAt, clauses-meaning, meaning-ext, meaning-words}
+use Rattle.encoding_laws.proofs.Row.{inRow, rowWord, openValues, Apart, Holding, row-size, row-values, row-of, row-holding, openValues-length}
+
+-- ---- one group
+
+-- L and U of a stable group
+pub record OpenLimits (r : Group) : Type 0 where
+  pub low-open : atLeast r ≤ openCount r
+  pub high-open : atMost r ≤ openCount r
+  pub low-high : atLeast r ≤ atMost r
+  pub low-is : atLeast r + size (r .fixed) ≡ r .low
+  pub high-is : atMost r + size (r .fixed) ≡ r .high
+
+pub limits-of : (n : ℕ) (r : Group) → Stable n r → OpenLimits r
+unfolding atLeast atMost openCount openOf
+limits-of n r s =
+    let e = size-less (r .possible) (r .fixed) (s .sub) in
+    record {
+      low-open = omega (arith, s .low-fixed, s .order, s .high-possible);
+      high-open = omega (arith, s .low-fixed, s .order, s .high-possible);
+      low-high = omega (arith, s .order);
+      low-is = omega (arith, s .low-fixed);
+      high-is = omega (arith, s .low-fixed, s .order);
+    }
+
+pub counted-pos : (L U m : ℕ) → L ≤ m → T (ltb 0 L || ltb U m) → 1 ≤ m
+counted-pos L U m h t = go (decLt 0 L)
+  where
+    go : Dec (0 < L) → 1 ≤ m
+    go (yes l) = omega arith
+    go (no l) = let k = ltb→lt U m (rw (T-false (ltb 0 L) (le→nltb 0 L (omega arith))) at t) in omega arith
+
+uncounted : (L U m : ℕ) → T (not (ltb 0 L || ltb U m)) → (L ≤ 0) × (m ≤ U)
+uncounted L U m t = go (decLt 0 L)
+  where
+    go : Dec (0 < L) → (L ≤ 0) × (m ≤ U)
+    go (yes l) = absurd (rw (T-true (ltb 0 L) (lt→ltb 0 L l)) at t)
+    go (no l) = (omega arith, nltb→le U m (rw (T-false (ltb 0 L) (le→nltb 0 L (omega arith))) at t))
+
+open-apart : (n : ℕ) (r : Group) → Stable n r → Apart (r .fixed) (openOf r)
+unfolding openOf
+open-apart n r s = record { bits = λ e. omega (arith, bit-less e (r .possible) (r .fixed), s .sub .at e, bit-le e (r .possible)) }
+
+pub open-lt : (n : ℕ) (r : Group) → Stable n r → openOf r < 2 ^ n
+unfolding openOf
+open-lt n r s = let h = sub-le (sub-less (r .possible) (r .fixed)) in omega (arith, s .bound)
+
+fixed-lt : (n : ℕ) (r : Group) → Stable n r → r .fixed < 2 ^ n
+fixed-lt n r s = let h = sub-le (s .sub) in omega (arith, s .bound)
+
+-- the values of a group's outputs
+unfoldable fillOf : Group → List Bool → List Bool
+fillOf r xs = cond (counted r) (fill (shape (openCount r)) xs) []
+
+length-fillOf : (r : Group) (xs : List Bool) → length (fillOf r xs) ≡ outputsOf r
+unfolding fillOf outputsOf
+length-fillOf r xs = go (counted r)
+  where
+    go : (b : Bool) → length (cond b (fill (shape (openCount r)) xs) []) ≡ cond b (treeOutputCount (openCount r)) 0
+    go true = length-fill (shape (openCount r)) xs ∙ outputs-count (openCount r)
+    go false = refl
+
+-- a group's clauses, and its word
+unfoldable clausesFrom : Group → ℕ → ℕ → List (List Literal)
+clausesFrom r v o = cond (counted r) (totalizerClauses (openCount r) v o (atLeast r) (atMost r)) []
+
+unfoldable wordFrom : ℕ → List Bool → Group → ℕ → ℕ → ℕ
+wordFrom n a r v o = rowWord (truth a) n (r .fixed) (openOf r) v
+
+module _ (n : ℕ) (a : List Bool) (r : Group) (v o : ℕ) (s : Stable n r) where
+  word-size : size (wordFrom n a r v o) ≡ size (r .fixed) + count (valuesFrom a v (openCount r))
+  unfolding wordFrom openCount
+  word-size = row-size (truth a) n (r .fixed) (openOf r) v (fixed-lt n r s) (open-lt n r s) (open-apart n r s)
+
+  InLimits : Type 0
+  InLimits = (r .low ≤ size (wordFrom n a r v o)) × (size (wordFrom n a r v o) ≤ r .high)
+
+  group-iff : T (allTrue a (clausesFrom r v o)) ↔ ((valuesFrom a o (outputsOf r) ≡ fillOf r (valuesFrom a v (openCount r))) × InLimits)
+  unfolding clausesFrom outputsOf fillOf counted InLimits
+  group-iff = go (counted r) refl
+    where
+      m : ℕ
+      m = openCount r
+
+      x : ℕ
+      x = count (valuesFrom a v m)
+
+      l : OpenLimits r
+      l = limits-of n r s
+
+      hx : x ≤ m
+      hx = rw (values-length (truth a) v m) at (count-le (valuesFrom a v m))
+
+      go : (b : Bool) → counted r ≡ b
+          → T (allTrue a (cond b (totalizerClauses m v o (atLeast r) (atMost r)) []))
+          ↔ ((valuesFrom a o (cond b (treeOutputCount m) 0) ≡ cond b (fill (shape m) (valuesFrom a v m)) []) × InLimits)
+      go true c =
+          let h1 : 1 ≤ m = counted-pos (atLeast r) (atMost r) m (l .low-open) (subst T (sym c) tt) in
+          let w = totalizer-iff a m v o (atLeast r) (atMost r) h1 (l .low-open) (l .high-open) in (
+            λ t. let q = w .0 t in
+                let q0 = q .1 .0 in
+                let q1 = q .1 .1 in
+                (rw (outputs-count m, leaves-shape m h1) at (q .0), (omega (arith, word-size, l .low-is), omega (arith, word-size, l .high-is))),
+            λ h. let h0 = h .1 .0 in
+                let h1′ = h .1 .1 in
+                w .1 (rw (outputs-count m, leaves-shape m h1) (h .0), (omega (arith, word-size, l .low-is), omega (arith, word-size, l .high-is))),
+          )
+      go false c =
+          let w = uncounted (atLeast r) (atMost r) m (subst (λ b. T (not b)) (sym c) tt) in
+          let w0 = w .0 in
+          let w1 = w .1 in
+          (λ t. (refl, (omega (arith, word-size, l .low-is), omega (arith, word-size, l .high-is, hx))), λ h. tt)
+
+  allowed-iff : T (allowed r (wordFrom n a r v o)) ↔ InLimits
+  unfolding allowed InLimits wordFrom openOf
+  allowed-iff =
+      let w = wordFrom n a r v o in
+      let h : Holding (r .fixed) (openOf r) w = row-holding (truth a) n (r .fixed) (openOf r) v (fixed-lt n r s) in
+      let i = inside (r .fixed) w && inside w (r .possible) in
+      let fw : Sub (r .fixed) w = record { at = λ e. h .low e } in
+      let wp : Sub w (r .possible) = record { at = λ e. omega (arith, h .high e, bit-less e (r .possible) (r .fixed), s .sub .at e) } in (
+        λ t. let b = and-right i (between (r .low) (r .high) (size w)) t in (
+          leb→le (r .low) (size w) (and-left (leb (r .low) (size w)) (leb (size w) (r .high)) b),
+          leb→le (size w) (r .high) (and-right (leb (r .low) (size w)) (leb (size w) (r .high)) b),
+        ),
+        λ l. and-both i (between (r .low) (r .high) (size w))
+            (and-both (inside (r .fixed) w) (inside w (r .possible)) (sub-inside (r .fixed) w fw) (sub-inside w (r .possible) wp))
+            (and-both (leb (r .low) (size w)) (leb (size w) (r .high)) (le→leb (r .low) (size w) (l .0)) (le→leb (size w) (r .high) (l .1))),
+      )
+
+-- an allowed word is between the fixed and the possible entrants
+allowed-holding : (n : ℕ) (r : Group) (w : ℕ) → Stable n r → T (allowed r w) → Holding (r .fixed) (openOf r) w × (w < 2 ^ n)
+unfolding allowed openOf
+allowed-holding n r w s t =
+    let i = inside (r .fixed) w && inside w (r .possible) in
+    let h = and-left i (between (r .low) (r .high) (size w)) t in
+    let fw = inside-sub (r .fixed) w (and-left (inside (r .fixed) w) (inside w (r .possible)) h) in
+    let wp = inside-sub w (r .possible) (and-right (inside (r .fixed) w) (inside w (r .possible)) h) in
+    let l = sub-le wp in (
+      record {
+        low = λ e. fw .at e;
+        high = λ e. omega (arith, wp .at e, bit-less e (r .possible) (r .fixed), s .sub .at e);
+      },
+      omega (arith, s .bound),
+    )
+
+-- a group's term for an entrant, by the group's words
+member-true : (a : List Bool) (t : List Group) (g e : ℕ)
+    → termTrue a (membership t e g) ≡ inRow (truth a) (groupAt t g .fixed) (openOf (groupAt t g)) (firstVariable t g) e
+unfolding membership variableOf openOf
+member-true a t g e = go (has (r .fixed) e) refl (has (r .possible) e) refl
+  where
+    r : Group
+    r = groupAt t g
+
+    x : ℕ
+    x = firstVariable t g + size (openOf r % 2 ^ e)
+
+    go : (f : Bool) → has (r .fixed) e ≡ f → (p : Bool) → has (r .possible) e ≡ p
+        → termTrue a (cond f Holds (cond p (Open (Pos x)) Fails)) ≡ (f || (has (openOf r) e && truth a x))
+    go true k p q = refl
+    go false k true q = sym (ap (λ (b : Bool). b && truth a x) (has-less (r .possible) (r .fixed) e ∙ ap₂ (λ (u w : Bool). u && not w) q k))
+    go false k false q = sym (ap (λ (b : Bool). b && truth a x) (has-less (r .possible) (r .fixed) e ∙ ap₂ (λ (u w : Bool). u && not w) q k))
+
+-- ---- all groups
+
+-- the values of all outputs, from those of the groups' variables
+abbrev fillAll : List Group → List Bool → List Bool
+fillAll [] xs = []
+fillAll (r ∷ rs) xs = fillOf r (take (openCount r) xs) ++ fillAll rs (drop (openCount r) xs)
+
+length-fillAll : (t : List Group) (xs : List Bool) → length (fillAll t xs) ≡ total outputsOf t
+length-fillAll [] xs = refl
+length-fillAll (r ∷ rs) xs =
+    length-append (fillOf r (take (openCount r) xs)) (fillAll rs (drop (openCount r) xs))
+    ∙ ap₂ (λ (a b : ℕ). a + b) (length-fillOf r (take (openCount r) xs)) (length-fillAll rs (drop (openCount r) xs))
+
+-- the values of the groups' variables, from the sets
+abbrev valuesOf : ℕ → List Group → List ℕ → List Bool
+valuesOf n [] d = []
+valuesOf n (r ∷ rs) [] = []
+valuesOf n (r ∷ rs) (w ∷ ws) = openValues n (openOf r) w ++ valuesOf n rs ws
+
+values-total : (n : ℕ) (t : List Group) (d : List ℕ) → All (Stable n) t → T (pairwise allowed t d) → length (valuesOf n t d) ≡ total openCount t
+unfolding openCount
+values-total n [] [] s h = refl
+values-total n [] (w ∷ ws) s h = absurd h
+values-total n (r ∷ rs) [] s h = absurd h
+values-total n (r ∷ rs) (w ∷ ws) s h =
+    length-append (openValues n (openOf r) w) (valuesOf n rs ws)
+    ∙ ap₂ (λ (a b : ℕ). a + b) (openValues-length n (openOf r) w (open-lt n r (s .0)))
+    (values-total n rs ws (s .1) (and-right (allowed r w) (pairwise allowed rs ws) h))
+
+module _ (n : ℕ) (a : List Bool) where
+  words-values : (t : List Group) (v o : ℕ) → All (Stable n) t → valuesOf n t (overGroups (wordFrom n a) t v o) ≡ valuesFrom a v (total openCount t)
+  unfolding wordFrom openCount
+  words-values [] v o s = refl
+  words-values (r ∷ rs) v o s =
+      ap₂ (λ (x y : List Bool). x ++ y) (row-values (truth a) n (r .fixed) (openOf r) v (open-lt n r (s .0)) (open-apart n r (s .0)))
+      (words-values rs (v + openCount r) (o + outputsOf r) (s .1))
+      ∙ sym (values-append (truth a) v (openCount r) (total openCount rs))
+
+  words-of : (t : List Group) (d : List ℕ) (v o : ℕ) → All (Stable n) t → T (pairwise allowed t d)
+      → valuesFrom a v (total openCount t) ≡ valuesOf n t d → overGroups (wordFrom n a) t v o ≡ d
+  unfolding wordFrom openCount
+  words-of [] [] v o s h e = refl
+  words-of [] (w ∷ ws) v o s h e = absurd h
+  words-of (r ∷ rs) [] v o s h e = absurd h
+  words-of (r ∷ rs) (w ∷ ws) v o s h e =
+      let k : ℕ = openCount r in
+      let q = allowed-holding n r w (s .0) (and-left (allowed r w) (pairwise allowed rs ws) h) in
+      let p =
+      append-iff (valuesFrom a v k) (valuesFrom a (v + k) (total openCount rs)) (openValues n (openOf r) w) (valuesOf n rs ws)
+      (values-length (truth a) v k ∙ sym (openValues-length n (openOf r) w (open-lt n r (s .0)))) .0
+      (sym (values-append (truth a) v k (total openCount rs)) ∙ e) in
+      ap₂ (λ (x : ℕ) (xs : List ℕ). x ∷ xs)
+      (row-of (truth a) n (r .fixed) (openOf r) v w (fixed-lt n r (s .0)) (open-lt n r (s .0)) (q .1) (open-apart n r (s .0)) (q .0) (p .0))
+      (words-of rs ws (v + k) (o + outputsOf r) (s .1) (and-right (allowed r w) (pairwise allowed rs ws) h) (p .1))
+
+  groups-iff : (t : List Group) (v o : ℕ) → All (Stable n) t
+      → T (every (allTrue a) (overGroups clausesFrom t v o))
+      ↔ ((valuesFrom a o (total outputsOf t) ≡ fillAll t (valuesFrom a v (total openCount t))) × T (pairwise allowed t (overGroups (wordFrom n a) t v o)))
+  groups-iff [] v o s = (λ t. (refl, tt), λ h. tt)
+  groups-iff (r ∷ rs) v o s =
+      let k : ℕ = openCount r in
+      let j : ℕ = outputsOf r in
+      let xs = valuesFrom a v k in
+      let ys = valuesFrom a (v + k) (total openCount rs) in
+      let len = values-length (truth a) v k in
+      let g = group-iff n a r v o (s .0) in
+      let l = allowed-iff n a r v o (s .0) in
+      let b = groups-iff rs (v + k) (o + j) (s .1) in
+      let c = T-and (allTrue a (clausesFrom r v o)) (every (allTrue a) (overGroups clausesFrom rs (v + k) (o + j))) in
+      let w = T-and (allowed r (wordFrom n a r v o)) (pairwise allowed rs (overGroups (wordFrom n a) rs (v + k) (o + j))) in
+      let z =
+      append-iff (valuesFrom a o j) (valuesFrom a (o + j) (total outputsOf rs)) (fillOf r xs) (fillAll rs ys)
+      (values-length (truth a) o j ∙ sym (length-fillOf r xs)) in
+      let ours : valuesFrom a o (j + total outputsOf rs) ≡ valuesFrom a o j ++ valuesFrom a (o + j) (total outputsOf rs) =
+      values-append (truth a) o j (total outputsOf rs) in
+      let theirs : fillAll (r ∷ rs) (valuesFrom a v (k + total openCount rs)) ≡ fillOf r xs ++ fillAll rs ys =
+      ap (fillAll (r ∷ rs)) (values-append (truth a) v k (total openCount rs))
+      ∙ ap₂ (λ (p q : List Bool). fillOf r p ++ fillAll rs q) (take-at xs ys k len) (drop-at xs ys k len) in (
+        λ t. let p = c .0 t in
+            let q = g .0 (p .0) in
+            let u = b .0 (p .1) in
+            (ours ∙ z .1 (q .0, u .0) ∙ sym theirs, w .1 (l .1 (q .1), u .1)),
+        λ h. let p = z .0 (sym ours ∙ h .0 ∙ theirs) in
+            let q = w .0 (h .1) in
+            c .1 (g .1 (p .0, l .0 (q .0)), b .1 (p .1, q .1)),
+      )
+
+-- ---- constraints
+
+module _ (m : Model) (a : List Bool) where
+  -- bit e of the set of a group is its term's truth
+  group-has : (g e : ℕ) → 1 ≤ g → g ≤ m .s → e < m .n → has (setOf (groupsBy m a) g) e ≡ termTrue a (membership (tableOf m) e g)
+  unfolding setOf groupsBy groupBy
+  group-has g e h k l =
+      ap (λ (w : ℕ). has w e)
+      (getD-map-in (groupBy m a) (range 1 (m .s)) (g - 1) 0 0 (omega (arith, range-length 1 (m .s)))
+      ∙ ap (groupBy m a) (range-getD 1 (m .s) (g - 1) 0 (omega arith) ∙ omega arith))
+      ∙ has-where (λ e. termTrue a (membership (tableOf m) e g)) (m .n) e l
+
+  sets-small : All (λ w. w < 2 ^ m .n) (groupsBy m a)
+  unfolding groupsBy groupBy
+  sets-small =
+      all-map-iff (λ w. w < 2 ^ m .n) (groupBy m a) (range 1 (m .s)) .1
+      (all-of (λ g. groupBy m a g < 2 ^ m .n) (λ g. where-lt (λ e. termTrue a (membership (tableOf m) e g)) (m .n)) (range 1 (m .s)))
+
+  -- a constraint's clauses for one entrant
+  entrant-true : (c : Constraint) (e : ℕ) → T (between 1 6 (c .code))
+      → allTrue a (clausesAt (tableOf m) c e) ≡ meaningAt (c .code) (c .count) (λ i. termTrue a (membership (tableOf m) e (getD (c .groups) i 0)))
+  unfolding clausesAt clausesOf
+  entrant-true c e t =
+      let cs = memberClauses (c .code) (c .count) in
+      kept-true a (termOf (tableOf m) e) (clausesOf c)
+      ∙ every-map (λ ls. any (λ l. termTrue a (termOf (tableOf m) e l)) ls) (map (ofGroup (c .groups))) cs
+      ∙ every-ext (λ ls. any (λ l. termTrue a (termOf (tableOf m) e l)) (map (ofGroup (c .groups)) ls)) (any (memberTrue b))
+      (λ ls. any-map (λ l. termTrue a (termOf (tableOf m) e l)) (ofGroup (c .groups)) ls
+      ∙ any-ext (λ l. termTrue a (termOf (tableOf m) e (ofGroup (c .groups) l))) (memberTrue b) one ls) cs
+      ∙ clauses-meaning b (c .code) (c .count) t
+    where
+      b : ℕ → Bool
+      b i = termTrue a (membership (tableOf m) e (getD (c .groups) i 0))
+
+      one : (l : Literal) → termTrue a (termOf (tableOf m) e (ofGroup (c .groups) l)) ≡ memberTrue b l
+      one (Pos i) = unfold termOf ofGroup in refl
+      one (Neg i) = unfold termOf ofGroup in opposite-true a (membership (tableOf m) e (getD (c .groups) i 0))
+
+  constraint-true : (c : Constraint) → T (constraintInRange (m .s) c) → limits .members ≤ length (c .groups)
+      → allTrue a (constraintClauses (m .n) (tableOf m) c) ≡ constraintTrue (groupsBy m a) c
+  unfolding constraintClauses constraintTrue groupsOf
+  constraint-true c t wide =
+      every-each (clauseTrue a) (clausesAt (tableOf m) c) (range 0 (m .n))
+      ∙ every-range-ext (λ e. allTrue a (clausesAt (tableOf m) c e)) (λ e. meaningAt (c .code) (c .count) (λ i. has (getD ws i 0) e)) 0 (m .n)
+      (λ e _ h. entrant-true c e (code-six (m .s) c t)
+      ∙ meaning-ext (c .code) (c .count) (λ i. termTrue a (membership (tableOf m) e (getD (c .groups) i 0))) (λ i. has (getD ws i 0) e) (code-six (m .s) c t)
+      (λ i l. let g = member-group (m .s) c t wide i l in
+      sym (ap (λ (w : ℕ). has w e) (getD-map-in (setOf (groupsBy m a)) (groupsOf c) i 0 0 (omega (arith, groups-length (m .s) c t wide)))
+      ∙ group-has (getD (groupsOf c) i 0) e (g .0) (g .1) (omega arith)
+      ∙ ap (λ (g : ℕ). termTrue a (membership (tableOf m) e g)) (getD-take (memberCount (c .code) (c .count)) (c .groups) i 0 l))))
+      ∙ sym (meaning-words (m .n) ws small (pow-pos (m .n)) (c .code) (c .count) (code-six (m .s) c t) length-six)
+    where
+      ws : List ℕ
+      ws = map (setOf (groupsBy m a)) (groupsOf c)
+
+      small : All (λ w. w < 2 ^ m .n) ws
+      small =
+          all-map-iff (λ w. w < 2 ^ m .n) (setOf (groupsBy m a)) (groupsOf c) .1
+          (all-of (λ g. setOf (groupsBy m a) g < 2 ^ m .n)
+          (λ g. unfold setOf in all-getD (λ w. w < 2 ^ m .n) 0 (pow-pos (m .n)) (groupsBy m a) sets-small (g - 1)) (groupsOf c))
+
+      length-six : c .code ≡ 6 → length ws ≡ suc (c .count)
+      length-six e =
+          length-map (groupsOf c) (setOf (groupsBy m a)) ∙ groups-length (m .s) c t wide ∙ ap (λ (k : ℕ). memberCount k (c .count)) e
+          ∙ unfold memberCount in native.Mathlib.Numerals.add-one (c .count)
+
+-- ---- the whole
+
+-- each satisfying assignment reads back as a solution, and each solution is read back from exactly one
+pub record OneForOne (m : Model) : Type 0 where
+  pub sound : (a : List Bool) → T (isSatisfying m a) → T (isSolution m (groupsBy m a))
+  pub found : (d : List ℕ) → T (isSolution m d) → (a : List Bool) × T (isSatisfying m a) × (groupsBy m a ≡ d)
+  pub alone : (a b : List Bool) → T (isSatisfying m a) → T (isSatisfying m b) → groupsBy m a ≡ groupsBy m b → a ≡ b
+
+-- an assignment's values from a variable on
+values-are : (xs : List Bool) (i n : ℕ) → i + n ≤ length xs → map (λ v. getD xs v false) (range i n) ≡ take n (drop i xs)
+values-are xs i zero h = refl
+values-are xs i (suc n) h = rw (drop-cons xs i false (omega arith), values-are xs (suc i) n (omega arith))
+
+module _ (m : Model) (r : T (inRange m)) (fix : T (isFixpoint m)) (z : Sized m) (wide : T (membersSized m)) where
+  opens : ℕ
+  opens = total openCount (tableOf m)
+
+  stables : All (Stable (m .n)) (tableOf m)
+  stables = table-stable m fix r
+
+  sets-are : (a : List Bool) → groupsBy m a ≡ overGroups (wordFrom (m .n) a) (tableOf m) 1 (1 + opens)
+  unfolding groupsBy groupBy wordFrom rowWord opens
+  sets-are a =
+      let t = tableOf m in
+      ap (map (groupBy m a)) (ap (range 1) (sym (table-length m z)))
+      ∙ values-make (groupBy m a) (λ g. wordFrom (m .n) a (groupAt t g) (firstVariable t g) (firstOutput t g)) 1 1 (length t)
+      (λ k h. let r = groupAt t (1 + k) in
+      word-ext (λ e. termTrue a (membership t e (1 + k))) (inRow (truth a) (r .fixed) (openOf r) (firstVariable t (1 + k))) (m .n)
+      (λ e l. member-true a t (1 + k) e))
+      ∙ numbered (wordFrom (m .n) a) t
+
+  clauses-are : (a : List Bool) → T (allTrue a (each (groupClauses (tableOf m)) (range 1 (m .s)))) ↔ T (every (allTrue a) (overGroups clausesFrom (tableOf m) 1 (1 + opens)))
+  unfolding groupClauses clausesFrom opens
+  clauses-are a =
+      let e : allTrue a (each (groupClauses (tableOf m)) (range 1 (m .s))) ≡ every (allTrue a) (overGroups clausesFrom (tableOf m) 1 (1 + opens)) =
+      every-each (clauseTrue a) (groupClauses (tableOf m)) (range 1 (m .s))
+      ∙ sym (every-map (allTrue a) (groupClauses (tableOf m)) (range 1 (m .s)))
+      ∙ ap (λ (k : ℕ). every (allTrue a) (map (groupClauses (tableOf m)) (range 1 k))) (sym (table-length m z))
+      ∙ ap (every (allTrue a)) (numbered clausesFrom (tableOf m)) in
+      (λ h. subst T e h, λ h. subst T (sym e) h)
+
+  constraints-are : (a : List Bool) → allTrue a (each (constraintClauses (m .n) (tableOf m)) (constraintsOf m)) ≡ every (constraintTrue (groupsBy m a)) (constraintsOf m)
+  constraints-are a =
+      every-each (clauseTrue a) (constraintClauses (m .n) (tableOf m)) (constraintsOf m)
+      ∙ every-all-ext (λ c. allTrue a (constraintClauses (m .n) (tableOf m) c)) (constraintTrue (groupsBy m a)) (constraintsOf m)
+      (all-imp (λ c. T (constraintInRange (m .s) c) × T (leb (limits .members) (length (c .groups))))
+      (λ c. allTrue a (constraintClauses (m .n) (tableOf m) c) ≡ constraintTrue (groupsBy m a) c)
+      (λ c h. constraint-true m a c (h .0) (leb→le (limits .members) (length (c .groups)) (h .1))) (constraintsOf m)
+      (all-zip (λ c. T (constraintInRange (m .s) c)) (λ c. T (leb (limits .members) (length (c .groups)))) (constraintsOf m)
+      (every-all (constraintInRange (m .s)) (constraintsOf m) (in-range m r .constraints))
+      (every-all (λ c. leb (limits .members) (length (c .groups))) (constraintsOf m) wide)))
+
+  open-part : (a : List Bool) → length a ≡ variableCount (tableOf m) → valuesFrom a 1 opens ≡ take opens a
+  unfolding opens variableCount
+  open-part a h = values-are (false ∷ a) 1 opens (omega arith)
+
+  output-part : (a : List Bool) → length a ≡ variableCount (tableOf m) → valuesFrom a (1 + opens) (total outputsOf (tableOf m)) ≡ drop opens a
+  unfolding opens variableCount
+  output-part a h =
+      let e : 1 + opens ≡ suc opens = omega arith in
+      rw e
+      (values-are (false ∷ a) (suc opens) (total outputsOf (tableOf m)) (omega arith)
+      ∙ take-all (total outputsOf (tableOf m)) (drop opens a) (rw length-drop (omega arith)))
+
+  -- an assignment satisfies exactly when its outputs are filled in and its sets are a solution
+  main-iff : (a : List Bool) → length a ≡ variableCount (tableOf m)
+      → T (satisfying m a) ↔ ((drop opens a ≡ fillAll (tableOf m) (take opens a)) × T (isSolution m (groupsBy m a)))
+  unfolding satisfying isSolution opens
+  main-iff a h =
+      let gs = each (groupClauses (tableOf m)) (range 1 (m .s)) in
+      let cs = each (constraintClauses (m .n) (tableOf m)) (constraintsOf m) in
+      let w = allTrue-append a gs cs in
+      let e : allTrue a (clauses m) ≡ allTrue a (gs ++ cs) = ap (allTrue a) (clauses-parts m z) in
+      let g = groups-iff (m .n) a (tableOf m) 1 (1 + opens) stables in
+      let k = constraints-are a in
+      let p = output-part a h in
+      let q = ap (fillAll (tableOf m)) (open-part a h) in
+      let d : pairwise allowed (tableOf m) (groupsBy m a) ≡ pairwise allowed (tableOf m) (overGroups (wordFrom (m .n) a) (tableOf m) 1 (1 + opens)) =
+      ap (pairwise allowed (tableOf m)) (sets-are a) in
+      let b = T-and (pairwise allowed (tableOf m) (groupsBy m a)) (every (constraintTrue (groupsBy m a)) (constraintsOf m)) in (
+        λ t. let y = w .0 (subst T e t) in
+            let u = g .0 (clauses-are a .0 (y .0)) in
+            (sym p ∙ u .0 ∙ q, b .1 (subst T (sym d) (u .1), subst T k (y .1))),
+        λ x. let y = b .0 (x .1) in
+            subst T (sym e) (w .1 (clauses-are a .1 (g .1 (p ∙ x .0 ∙ sym q, subst T d (y .0))), subst T (sym k) (y .1))),
+      )
+
+  length-is : (a : List Bool) → T (isSatisfying m a) → length a ≡ variableCount (tableOf m)
+  unfolding isSatisfying isAssignment
+  length-is a t = eqb→eq (length a) (variableCount (tableOf m)) (and-left (eqb (length a) (variableCount (tableOf m))) (satisfying m a) t)
+
+  parts : (a : List Bool) → T (isSatisfying m a) → (drop opens a ≡ fillAll (tableOf m) (take opens a)) × T (isSolution m (groupsBy m a))
+  unfolding isSatisfying isAssignment
+  parts a t = main-iff a (length-is a t) .0 (and-right (eqb (length a) (variableCount (tableOf m))) (satisfying m a) t)
+
+  pub one-for-one : OneForOne m
+  unfolding opens isSatisfying isAssignment isSolution variableCount
+  one-for-one = record { sound = λ a h. parts a h .1; found = found′; alone = alone′ }
+    where
+      found′ : (d : List ℕ) → T (isSolution m d) → (a : List Bool) × T (isSatisfying m a) × (groupsBy m a ≡ d)
+      found′ d hd = (
+        a,
+        and-both (eqb (length a) (variableCount (tableOf m))) (satisfying m a) (subst (λ (k : ℕ). T (eqb (length a) k)) ha (eqb-refl (length a)))
+            (main-iff a ha .1 (dr ∙ sym (ap (fillAll (tableOf m)) tk), subst (λ (x : List ℕ). T (isSolution m x)) (sym e) hd)),
+        e,
+      )
+        where
+          xs : List Bool
+          xs = valuesOf (m .n) (tableOf m) d
+
+          a : List Bool
+          a = xs ++ fillAll (tableOf m) xs
+
+          hp : T (pairwise allowed (tableOf m) d)
+          hp = and-left (pairwise allowed (tableOf m) d) (every (constraintTrue d) (constraintsOf m)) hd
+
+          hx : length xs ≡ opens
+          hx = values-total (m .n) (tableOf m) d stables hp
+
+          ha : length a ≡ variableCount (tableOf m)
+          ha = length-append xs (fillAll (tableOf m) xs) ∙ ap₂ (λ (x y : ℕ). x + y) hx (length-fillAll (tableOf m) xs)
+
+          tk : take opens a ≡ xs
+          tk = take-at xs (fillAll (tableOf m) xs) opens hx
+
+          dr : drop opens a ≡ fillAll (tableOf m) xs
+          dr = drop-at xs (fillAll (tableOf m) xs) opens hx
+
+          e : groupsBy m a ≡ d
+          e = sets-are a ∙ words-of (m .n) a (tableOf m) d 1 (1 + opens) stables hp (open-part a ha ∙ tk)
+
+      alone′ : (a b : List Bool) → T (isSatisfying m a) → T (isSatisfying m b) → groupsBy m a ≡ groupsBy m b → a ≡ b
+      alone′ a b h k e = sym (take-append-drop opens a) ∙ ap₂ (λ (x y : List Bool). x ++ y) tk dr ∙ take-append-drop opens b
+        where
+          opened : (a : List Bool) → T (isSatisfying m a) → valuesOf (m .n) (tableOf m) (groupsBy m a) ≡ take opens a
+          opened a h =
+              ap (valuesOf (m .n) (tableOf m)) (sets-are a) ∙ words-values (m .n) a (tableOf m) 1 (1 + opens) stables ∙ open-part a (length-is a h)
+
+          tk : take opens a ≡ take opens b
+          tk = sym (opened a h) ∙ ap (valuesOf (m .n) (tableOf m)) e ∙ opened b k
+
+          dr : drop opens a ≡ drop opens b
+          dr = parts a h .0 ∙ ap (fillAll (tableOf m)) tk ∙ sym (parts b k .0)
