@@ -30,7 +30,8 @@ use Rattle.encoding_laws.proofs.Sized.{Sized}
 use Rattle.encoding_laws.proofs.Counts.{group-length}
 use Rattle.encoding_laws.proofs.Groups.{table-length, constraints-length, group-block, constraint-block}
 use Rattle.encoding_laws.proofs.Fixpoint.{Stable, in-range, table-stable}
-use Rattle.encoding_laws.proofs.Members.{by-code, code-six, count-in}
+use Rattle.model.proofs.Codes.{by-code}
+use Rattle.encoding_laws.proofs.Members.{code-six, count-in}
 use Rattle.encoding_laws.proofs.Whole.{limits-of, open-lt}
 use Rattle.encoding_laws.proofs.Ranges.{In, VariablesIn, group-variables, constraint-variables}
 use Rattle.encoding_laws.proofs.Decimal.{digits-5, digits-7}

@@ -17,7 +17,7 @@ use Rattle.model.specs.Clauses.{memberCount, shortClauses, unionClauses, member
 use Rattle.model.specs.Solution.{union, meaning}
 use Rattle.model.proofs.Words.{bit-ext, bit-past, bit-le, bit-and, bit-or, bit-less, bit-zero, inside-sub, sub-inside, has-one, has-none, one-has, has-and, has-or, has-less, has-zero}
 use Rattle.model.proofs.Lists.{T-ext, or-assoc, every-range, range-every, every-ext, any-range-ext, any-map, values-make, places, All, all-getD}
-use Rattle.encoding_laws.proofs.Members.{by-code}
+use Rattle.model.proofs.Codes.{by-code}
 
 -- ---- one entrant: member i holds him where b i does
 

@@ -15,22 +15,11 @@ use Rattle.model.specs.Limits.{limits}
 use Rattle.model.specs.Clauses.{memberCount, shortClauses, unionClauses, memberClauses, groupsOf}
 use Rattle.model.specs.Model.{codeInRange, constraintInRange}
 use Rattle.model.specs.Assignment.{variable}
+use Rattle.model.proofs.Codes.{by-code}
 use Rattle.model.proofs.Lists.{and-left, and-right, All, all-both, all-map-iff, range-all, all-imp, all-getD, every-all, every-getD}
 
 pub between-le : (a b x : ℕ) → T (between a b x) → (a ≤ x) × (x ≤ b)
 between-le a b x t = (leb→le a x (and-left (leb a x) (leb x b) t), leb→le x b (and-right (leb a x) (leb x b) t))
-
--- what holds of each of the codes 1 to 6
-pub by-code : (P : ℕ → Type 0) → P 1 → P 2 → P 3 → P 4 → P 5 → P 6 → (code : ℕ) → T (between 1 6 code) → P code
-by-code P a b c d e f zero t = absurd t
-by-code P a b c d e f (suc zero) t = a
-by-code P a b c d e f (suc (suc zero)) t = b
-by-code P a b c d e f (suc (suc (suc zero))) t = c
-by-code P a b c d e f (suc (suc (suc (suc zero)))) t = d
-by-code P a b c d e f (suc (suc (suc (suc (suc zero))))) t = e
-by-code P a b c d e f (suc (suc (suc (suc (suc (suc zero)))))) t = f
-by-code P a b c d e f (suc (suc (suc (suc (suc (suc (suc k))))))) t =
-    let h = between-le 1 6 (suc (suc (suc (suc (suc (suc (suc k))))))) t .1 in absurd (omega arith)
 
 -- a clause over members 0 .. r - 1, at least one
 abbrev Clear : ℕ → List Literal → Type 0

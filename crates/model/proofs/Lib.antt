@@ -1,4 +1,5 @@
 pub mod Lists
 pub mod Loops
 pub mod Words
+pub mod Codes
 pub mod Examples

@@ -17,6 +17,7 @@ use Rattle.model.specs.Lists.{every, any, range, between}
 use Rattle.model.specs.Words.{less, has}
 use Rattle.model.specs.Clauses.{memberCount, shortClauses, unionClauses, memberClauses, ofGroup, groupsOf, clausesOf}
 use Rattle.model.specs.Model.{codeInRange}
+use Rattle.model.proofs.Codes.{by-code}
 use Rattle.model.specs.Limits.{limits}
 use Rattle.model.specs.Solution.{union, meaning, setOf, constraintTrue}
 use Rattle.model.proofs.Lists.{and-left, and-right, any-append, every-map, any-map, every-ext, any-ext, take-places}
@@ -130,18 +131,6 @@ module _ (says : Bool → Bool → Bool → Bool) (value : Bool → Bool → Boo
 
 -- ---- each code; the set of member i is S i
 
-pub by-code : (P : ℕ → Type 0) → P 1 → P 2 → P 3 → P 4 → P 5 → P 6 → (code : ℕ) → T (between 1 6 code) → P code
-by-code P a b c d e f zero t = absurd t
-by-code P a b c d e f (suc zero) t = a
-by-code P a b c d e f (suc (suc zero)) t = b
-by-code P a b c d e f (suc (suc (suc zero))) t = c
-by-code P a b c d e f (suc (suc (suc (suc zero)))) t = d
-by-code P a b c d e f (suc (suc (suc (suc (suc zero))))) t = e
-by-code P a b c d e f (suc (suc (suc (suc (suc (suc zero)))))) t = f
-by-code P a b c d e f (suc (suc (suc (suc (suc (suc (suc m))))))) t =
-    let code = suc (suc (suc (suc (suc (suc (suc m)))))) in
-    absurd (let h = leb→le code 6 (and-right (leb 1 code) (leb code 6) t) in omega arith)
-
 module _ (k : ℕ) (S : ℕ → ℕ) where
   abbrev Says : ℕ → Type 0
   Says code = T (meaning code (map S (range 0 (memberCount code k)))) ↔ ((e : ℕ) → T (clausesFor (λ i. has (S i) e) (memberClauses code k)))
@@ -204,18 +193,6 @@ module _ (k : ℕ) (S : ℕ → ℕ) where
 -- its list has its groups, as an array of 17 does
 unfoldable pub hasMembers : Constraint → Bool
 hasMembers c = leb (memberCount (c .code) (c .count)) (length (c .groups))
-
--- at most 17
-pub member-bound : (c : Constraint) → T (codeInRange (c .code) (c .count)) → memberCount (c .code) (c .count) ≤ limits .members
-unfolding codeInRange
-member-bound c r =
-    let k = c .count in
-    let a = between 1 6 (c .code) in
-    let b = not (eqb (c .code) 6) || between 2 (limits .members - 1) k in
-    by-code (λ code. T (not (eqb code 6) || between 2 (limits .members - 1) k) → memberCount code k ≤ limits .members)
-    (λ t. unfold memberCount in lit≤ tt) (λ t. unfold memberCount in lit≤ tt) (λ t. unfold memberCount in lit≤ tt) (λ t. unfold memberCount in lit≤ tt)
-    (λ t. unfold memberCount in lit≤ tt)
-    (λ t. unfold memberCount in (let h = leb→le k 16 (and-right (leb 2 k) (leb k 16) t) in omega arith)) (c .code) (and-left a b r) (and-right a b r)
 
 pub meaning-clauses : (c : Constraint) → T (codeInRange (c .code) (c .count)) → T (hasMembers c) → (d : List ℕ)
     → T (constraintTrue d c) ↔ ((e : ℕ) → T (clausesHold d c e))

@@ -25,7 +25,8 @@ use Rattle.model.specs.Demand.{Accepted, OrderOf}
 use Rattle.model.proofs.Lists.{T-true, true-T, and-right, and-both, total-append, range-length, All, all-perm, all-map, every-all, all-every, perm-total, perm-length, every-take, every-sets, take-sets}
 use Rattle.model.proofs.Words.{where-lt, where-sub}
 use Rattle.propagation_laws.proofs.Ranges.{is-group-range, constraint-code, model-range, is-model-range}
-use Rattle.propagation_laws.proofs.Meaning.{hasMembers, member-bound}
+use Rattle.model.proofs.Codes.{member-bound}
+use Rattle.propagation_laws.proofs.Meaning.{hasMembers}
 use Rattle.propagation_laws.proofs.Points.{Sized}
 use Rattle.propagation_laws.proofs.Propagation.{Reordered, Propagation, propagation}
 use Rattle.propagation_laws.proofs.Lines.{ends, ends-last, text-lines, text-ends, text-length}
@@ -98,7 +99,7 @@ unfolding whole constraintFrom groupCount
 constraint-whole l t =
     let f : ℕ → ℕ = λ i. valueAt l (firstGroup l + i) in
     let k = groupCount l in
-    let h : k ≤ limits .members = member-bound (constraintFrom l) t in
+    let h : k ≤ limits .members = member-bound (valueAt l 1) (countFrom l) t in
     subst (λ (x : ℕ). T (eqb x (limits .members)))
     (sym (length-append (map f (range 0 k)) (replicate (limits .members - k) 0)
     ∙ ap₂ (λ (a b : ℕ). a + b) (length-map (range 0 k) f ∙ range-length 0 k) (length-replicate (limits .members - k) 0)
@@ -415,7 +416,7 @@ sized m r t = record {
     one c r t =
         le→leb (memberCount (c .code) (c .count)) (length (c .groups))
         (subst (λ (k : ℕ). memberCount (c .code) (c .count) ≤ k) (sym (eqb→eq (length (c .groups)) (limits .members) t))
-        (member-bound c (constraint-code (m .s) c r)))
+        (member-bound (c .code) (c .count) (constraint-code (m .s) c r)))
 
     go : (cs : List Constraint) → All (λ c. T (constraintInRange (m .s) c)) cs → All (λ c. T (whole c)) cs → T (every hasMembers cs)
     go [] r t = tt

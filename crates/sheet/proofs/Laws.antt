@@ -2,18 +2,20 @@
 use Prim.Native.Nat.{ℕ, zero, suc, _+_, _-_, _*_, _^_, _%_, _≤_, _<_}
 use mathlib.Core.Path.{_≡_, refl, ap, sym, _∙_}
 use mathlib.Core.Bool.{Bool, true, false, cond, _&&_}
-use mathlib.Core.List.{List, [], _∷_}
+use mathlib.Core.List.{List, [], _∷_, _++_, map, append-assoc}
 use mathlib.Core.Option.{Option, none, some}
-use native.Mathlib.Nat.{one-mul, add-comm, pow-suc, pow-le-pow-right, lt-of-lt-of-le, two-pow-succ}
+use native.Mathlib.Nat.{one-mul, add-comm, pow-suc, pow-le-pow-right, lt-of-lt-of-le, two-pow-succ, zero-add}
 use native.Mathlib.Numerals.{add-one}
 use native.Mathlib.Omega.{arith}
 use borrow.Author.Tests.{eq-eqb, ne-eqb, le-leb, lt-leb}
 use lib.Bits.{bitOr, or-shifted-r}
 use lib.Dec.{eqb}
-use lib.ListN.{length, take, drop, getD, length-drop, drop-of-length-le}
+use lib.ListN.{length, take, drop, getD, set, replicate, length-drop, drop-of-length-le}
 use lib.Pow.{shl-exact, pow-pos}
-use lib.Seq.{take-all}
+use lib.Seq.{take-all, set-at}
+use Rattle.model.proofs.Lists.{values-append, values-length}
 use Rattle.model.proofs.Loops.{drop-next}
+use Rattle.model.specs.Lists.{range}
 use Rattle.model.specs.Words.{wordWhere}
 use Rattle.model.specs.Sheet.{afterSpaces, digitsAfter}
 use Rattle.sheet.specs.Line.{lineLength}
@@ -82,3 +84,16 @@ word-more p e = rw add-one
 
 pub or-bit : (w e : ℕ) → e < 32 → w < 2 ^ e → bitOr w (1 * 2 ^ e % 18446744073709551616) ≡ w + 2 ^ e
 or-bit w e h k = rw (shl-exact {a = 1} 1 e 64 (omega arith) (omega arith), or-shifted-r 1 e w k) (simp one-mul (add-comm (2 ^ e) w))
+
+-- ---- a list stored place by place over zeros
+
+-- f 0, .. f (k - 1), then zeros
+pub store-next : (f : ℕ → ℕ) (m i : ℕ) → i < m
+    → set (map f (range 0 i) ++ replicate (m - i) 0) i (f i) ≡ map f (range 0 (i + 1)) ++ replicate (m - (i + 1)) 0
+store-next f m i h =
+    let z : m - i ≡ suc (m - (i + 1)) = omega arith in
+    let rest : List ℕ = replicate (m - (i + 1)) 0 in
+    let last : map f (range 0 (i + 1)) ≡ map f (range 0 i) ++ (f i ∷ []) = values-append f 0 i 1 ∙ rw (zero-add i) in
+    rw z
+    (set-at (map f (range 0 i)) 0 rest (f i) i (values-length f 0 i)
+    ∙ sym (ap (λ (l : List ℕ). l ++ rest) last ∙ append-assoc (map f (range 0 i)) (f i ∷ []) rest))
