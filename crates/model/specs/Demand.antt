@@ -6,7 +6,7 @@ use mathlib.Core.Bool.{Bool, true, false, cond, not, _&&_, _||_}
 use mathlib.Core.List.{List, [], _∷_, _++_, List·Permᴰ}
 use mathlib.Core.Option.{Option, none, some}
 use lib.Dec.{leb, ltb, eqb}
-use lib.ListN.{length, take, drop}
+use lib.ListN.{length, getD, take, drop}
 use Rattle.model.specs.declared.Literal.{Literal}
 use Rattle.model.specs.declared.Literal.the-variants.{Pos, Neg}
 use Rattle.model.specs.declared.Group.{Group}
@@ -95,7 +95,7 @@ names l k = eqb (variable k) (variable l)
 -- 11 and 12 of literals in order, with V variables, after the literals said
 abbrev pub offence : ℕ → List Literal → List Literal → ℕ
 offence v said [] = 0
-offence v said (l ∷ ls) = stop (ltb v (variable l)) 11 (stop (any (names l) said) 12 (offence v (l ∷ said) ls))
+offence v said (l ∷ ls) = stop (ltb v (variable l)) 11 (stop (any (names l) said) 12 (offence v (said ++ (l ∷ [])) ls))
 
 abbrev pub formOffence : ℕ → List Literal → Option Said → ℕ
 formOffence v said none = 10
@@ -105,7 +105,7 @@ formOffence v said (some f) = offence v said (f .literals)
 unfoldable pub refusalAfter : ℕ → Said → List ℕ → ℕ
 refusalAfter v said line =
     stop (isPassedOver line) 0
-    (stop (not (eqb (lib.ListN.getD line 0 0) 118)) 10
+    (stop (not (eqb (getD line 0 0) 118)) 10
     (stop (said .closed) 25 (formOffence v (said .literals) (formOf line))))
 
 -- what the earlier lines that are not refused say, and this one after them
