@@ -317,6 +317,10 @@ every-from : {A : Type 0} (p : A → Bool) (d : A) (xs : List A) → ((i : ℕ) 
 every-from p d [] h = tt
 every-from p d (x ∷ xs) h = and-both (p x) (every p xs) (h 0 (omega arith)) (every-from p d xs (λ i l. h (suc i) (omega arith)))
 
+pub says-size : (v : ℕ) (said : List Literal) (a : List Bool) → T (says v said a) → T (eqb (length a) v)
+unfolding says
+says-size v said a t = and-left (eqb (length a) v) (every (λ x. any (λ l. eqb (variable l) x && literalTrue a l) said) (range 1 v)) t
+
 module _ (v : ℕ) (said : List Literal) (values : List ℕ) (h : Holds v said values) where
   truth-at : (i : ℕ) → i < v → truth (assignmentOf values) (suc i) ≡ eqb (getD values i 0) 1
   unfolding assignmentOf
@@ -342,7 +346,7 @@ module _ (v : ℕ) (said : List Literal) (values : List ℕ) (h : Holds v said v
       one x l u =
           let i : suc (x - 1) ≡ x = omega arith in
           let e : isSaid (getD values (x - 1) 0) ≡ true =
-              T-true (isSaid (getD values (x - 1) 0)) (every-getD isSaid values 0 (x - 1) t (omega (arith, h .size))) in
+          T-true (isSaid (getD values (x - 1) 0)) (every-getD isSaid values 0 (x - 1) t (omega (arith, h .size))) in
           true-T (any (λ l. eqb (variable l) x && literalTrue (assignmentOf values) l) said)
           (sym (any-with (λ l. eqb (variable l) x) (literalTrue (assignmentOf values)) said (all-imp _ (λ l. T (literalTrue (assignmentOf values) l)) right-true said (h .held)))
           ∙ ap (λ (y : ℕ). any (λ k. eqb (variable k) y) said) (sym i)
@@ -351,8 +355,7 @@ module _ (v : ℕ) (said : List Literal) (values : List ℕ) (h : Holds v said v
   -- whatever assignment the literals say, the values hold it, all of them said
   module _ (a : List Bool) (t : T (says v said a)) where
     says-length : length a ≡ v
-    unfolding says
-    says-length = eqb-true (length a) v (T-true (eqb (length a) v) (and-left (eqb (length a) v) (every (λ x. any (λ l. eqb (variable l) x && literalTrue a l) said) (range 1 v)) t))
+    says-length = eqb-true (length a) v (T-true (eqb (length a) v) (says-size v said a t))
 
     says-one : (i : ℕ) → i < v
         → (l : Literal) × T (eqb (variable l) (suc i) && literalTrue a l) × ((variable l ≤ v) × (1 ≤ variable l) × (getD values (variable l - 1) 0 ≡ valueFor l))
@@ -360,7 +363,7 @@ module _ (v : ℕ) (said : List Literal) (values : List ℕ) (h : Holds v said v
     says-one i l =
         any-witness (λ l. eqb (variable l) (suc i) && literalTrue a l) (λ l. (variable l ≤ v) × (1 ≤ variable l) × (getD values (variable l - 1) 0 ≡ valueFor l)) said
         (every-range (λ x. any (λ l. eqb (variable l) x && literalTrue a l) said) 1 v
-          (and-right (eqb (length a) v) (every (λ x. any (λ l. eqb (variable l) x && literalTrue a l) said) (range 1 v)) t) (suc i) (omega arith) (omega arith))
+        (and-right (eqb (length a) v) (every (λ x. any (λ l. eqb (variable l) x && literalTrue a l) said) (range 1 v)) t) (suc i) (omega arith) (omega arith))
         (h .held)
 
     by-literal : (i : ℕ) (l : Literal) → variable l ≡ suc i → T (literalTrue a l) → getD values (variable l - 1) 0 ≡ valueFor l
