@@ -7,6 +7,8 @@ use lib.Dec.{leb, ltb, eqb}
 use lib.ListN.{length, getD, set}
 use Rattle.model.specs.declared.Literal.{Literal}
 use Rattle.model.specs.declared.Literal.the-variants.{Pos, Neg}
+use Rattle.model.specs.declared.Word.{Word}
+use Rattle.model.specs.declared.Word.the-variants.{Names, Closing, Malformed}
 use Rattle.model.specs.declared.Reading.{Reading}
 use Rattle.model.specs.declared.LineRead.{LineRead}
 use Rattle.model.specs.Lists.{between, stop}
@@ -19,25 +21,20 @@ abbrev pub wordsOf : List ℕ → List (List ℕ)
 wordsOf [] = [] ∷ []
 wordsOf (b ∷ bs) = cond (eqb b 32) ([] ∷ wordsOf bs) (onFirst b (wordsOf bs))
 
--- what a word of a `v` line is
-pub data Word : Type 0 where
-  literal : Literal → Word
-  closing bad : Word
-
 -- "no leading zero, up to 9 digits": the variable that digits name
 unfoldable pub variableIn : List ℕ → Option ℕ
 variableIn ds = cond (leb (length ds) 9 && not (eqb (getD ds 0 0) 48)) (numberOf ds) none
 
 abbrev pub asLiteral : (ℕ → Literal) → Option ℕ → Word
-asLiteral sign none = bad
-asLiteral sign (some v) = literal (sign v)
+asLiteral sign none = Malformed
+asLiteral sign (some v) = Names (sign v)
 
 -- "minus sign optional"
 unfoldable pub wordValue : List ℕ → Word
-wordValue [] = bad
+wordValue [] = Malformed
 wordValue (b ∷ bs) =
     cond (eqb b 45) (asLiteral Neg (variableIn bs))
-    (cond (eqb b 48 && eqb (length bs) 0) closing (asLiteral Pos (variableIn (b ∷ bs))))
+    (cond (eqb b 48 && eqb (length bs) 0) Closing (asLiteral Pos (variableIn (b ∷ bs))))
 
 -- the literals that a line names, and whether a closing 0 ends it
 pub record Said : Type 0 where
@@ -53,10 +50,10 @@ withLiteral l (some s) = some (record { literals = l ∷ s .literals; closed = s
 
 -- a word in front of others, which say `rest`
 abbrev pub sayWord : Word → List (List ℕ) → Option Said → Option Said
-sayWord bad ws rest = none
-sayWord closing [] rest = some (record { literals = []; closed = true })
-sayWord closing (w ∷ ws) rest = none
-sayWord (literal l) ws rest = withLiteral l rest
+sayWord Malformed ws rest = none
+sayWord Closing [] rest = some (record { literals = []; closed = true })
+sayWord Closing (w ∷ ws) rest = none
+sayWord (Names l) ws rest = withLiteral l rest
 
 abbrev pub sayWords : List (List ℕ) → Option Said
 sayWords [] = some nothingSaid

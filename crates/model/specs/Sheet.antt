@@ -8,6 +8,8 @@ use lib.ListN.{length, getD, take, drop, set, replicate}
 use Rattle.model.specs.declared.Group.{Group}
 use Rattle.model.specs.declared.Constraint.{Constraint}
 use Rattle.model.specs.declared.Model.{Model}
+use Rattle.model.specs.declared.Digits.{Digits}
+use Rattle.model.specs.declared.Digits.the-variants.{Number as DigitsNumber, Bad as DigitsBad}
 use Rattle.model.specs.declared.FieldValue.{FieldValue}
 use Rattle.model.specs.declared.FieldValue.the-variants.{Number, Bad}
 use Rattle.model.specs.declared.SheetRead.{SheetRead}
@@ -43,6 +45,14 @@ afterSpaces (b ∷ bs) = cond (eqb b 32) (afterSpaces bs) (b ∷ bs)
 abbrev pub digitsAfter : ℕ → List ℕ → Option ℕ
 digitsAfter v [] = some v
 digitsAfter v (d ∷ ds) = cond (between 48 57 d) (digitsAfter (v * 10 + (d - 48)) ds) none
+
+abbrev pub asDigits : Option ℕ → Digits
+asDigits none = DigitsBad
+asDigits (some v) = DigitsNumber v
+
+-- up to 9 digits, whose number fits a word of 32 bits
+unfoldable pub shortNumber : List ℕ → Digits
+shortNumber ds = cond (leb (length ds) 9) (asDigits (digitsAfter 0 ds)) DigitsBad
 
 -- one digit, or more of which the first is not 0
 unfoldable pub numberOf : List ℕ → Option ℕ

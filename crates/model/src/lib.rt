@@ -7,6 +7,7 @@ ghost use lib.ListN.{take, drop};
 ghost use Rattle.model.specs.Lists.{every, any, distinct, between};
 ghost use Rattle.model.specs.Limits.{limits};
 ghost use Rattle.model.specs.Clauses.{memberCount};
+ghost use Rattle.model.specs.Sheet.{shortNumber};
 ghost use Rattle.model.specs.Model.{zeroModel, tableOf, constraintsOf, groupInRange, codeInRange, constraintInRange, inRange};
 
 // "F" and "-F" of document 01: of a member of a constraint, of a group, or of a variable.
@@ -46,6 +47,12 @@ pub struct Model {
     pub constraints: [Constraint; Model::CONSTRAINTS],
 }
 
+// What digits stand for.
+pub enum Digits {
+    Number(u32),
+    Bad,
+}
+
 // What a field of a sheet holds.
 pub enum FieldValue {
     Number(u32),
@@ -70,6 +77,13 @@ pub struct Propagated {
 pub enum Written {
     Bytes(usize),
     Refused(u32),
+}
+
+// A word of a `v` line: a literal, the closing 0, or neither.
+pub enum Word {
+    Names(Literal),
+    Closing,
+    Malformed,
 }
 
 // The reading state of document 01: whether a closing 0 was read.
@@ -331,4 +345,28 @@ fn constraints_in_range(constraints: [Constraint; Model::CONSTRAINTS], c: usize,
         j += 1;
     }
     true
+}
+
+// The number that digits stand for, up to 9 of them: of a field of a sheet, and of a literal of a solver's line.
+pub fn decimal(d: &[u8]) -> Digits
+    ensures { λ r. ⌜ r ≡ shortNumber (now (d .entry)) ⌝ }
+{
+    let n = d.len();
+    if 9 < n {
+        return Digits::Bad;
+    }
+    let mut v: u32 = 0;
+    let mut i: usize = 0;
+    while i < n {
+        let b = d[i];
+        if b < 48 {
+            return Digits::Bad;
+        }
+        if 57 < b {
+            return Digits::Bad;
+        }
+        v = v * 10 + (b - 48) as u32;
+        i += 1;
+    }
+    Digits::Number(v)
 }

@@ -3,11 +3,10 @@ use Prim.Native.Nat.{ℕ, zero, suc, _+_, _-_, _*_, _^_, _%_, _≤_, _<_}
 use mathlib.Core.Path.{_≡_, refl, ap, sym, _∙_}
 use mathlib.Core.Bool.{Bool, true, false, cond, _&&_}
 use mathlib.Core.List.{List, [], _∷_, _++_, map, append-assoc}
-use mathlib.Core.Option.{Option, none, some}
-use native.Mathlib.Nat.{one-mul, add-comm, pow-suc, pow-le-pow-right, lt-of-lt-of-le, two-pow-succ, zero-add}
+use native.Mathlib.Nat.{one-mul, add-comm, two-pow-succ, zero-add}
 use native.Mathlib.Numerals.{add-one}
 use native.Mathlib.Omega.{arith}
-use borrow.Author.Tests.{eq-eqb, ne-eqb, le-leb, lt-leb}
+use borrow.Author.Tests.{eq-eqb, ne-eqb}
 use lib.Bits.{bitOr, or-shifted-r}
 use lib.Dec.{eqb}
 use lib.ListN.{length, take, drop, getD, set, replicate, length-drop, drop-of-length-le}
@@ -17,7 +16,7 @@ use Rattle.model.proofs.Lists.{values-append, values-length}
 use Rattle.model.proofs.Loops.{drop-next}
 use Rattle.model.specs.Lists.{range}
 use Rattle.model.specs.Words.{wordWhere}
-use Rattle.model.specs.Sheet.{afterSpaces, digitsAfter}
+use Rattle.model.specs.Sheet.{afterSpaces}
 use Rattle.sheet.specs.Line.{lineLength}
 
 -- a whole rest, as a part `&l[i..]` gives it
@@ -42,15 +41,6 @@ module _ (l : List ℕ) (i : ℕ) (h : i < length l) where
   pub line-stop : getD l i 0 ≡ 10 → lineLength (drop i l) ≡ 0
   line-stop e = rw (drop-next 0 l i h) (simp (eq-eqb _ _ e))
 
-  pub digits-more : (v : ℕ) → 48 ≤ getD l i 0 → getD l i 0 ≤ 57 → digitsAfter v (drop i l) ≡ digitsAfter (v * 10 + (getD l i 0 - 48)) (drop (i + 1) l)
-  digits-more v a b = rw (drop-next 0 l i h) (simp (le-leb _ _ a, le-leb _ _ b))
-
-  pub digits-low : (v : ℕ) → getD l i 0 < 48 → digitsAfter v (drop i l) ≡ none
-  digits-low v a = rw (drop-next 0 l i h) (simp (lt-leb _ _ a))
-
-  pub digits-high : (v : ℕ) → 57 < getD l i 0 → digitsAfter v (drop i l) ≡ none
-  digits-high v a = rw (drop-next 0 l i h) (simp (le-leb 48 (getD l i 0) (omega arith), lt-leb _ _ a))
-
 pub spaces-fewer : (l : List ℕ) → length (afterSpaces l) ≤ length l
 spaces-fewer [] = omega arith
 spaces-fewer (b ∷ bs) = go (eqb b 32) (spaces-fewer bs)
@@ -58,14 +48,6 @@ spaces-fewer (b ∷ bs) = go (eqb b 32) (spaces-fewer bs)
     go : (t : Bool) → length (afterSpaces bs) ≤ length bs → length (cond t (afterSpaces bs) (b ∷ bs)) ≤ suc (length bs)
     go true h = omega arith
     go false h = omega arith
-
--- ---- four digits stay below 10,000
-
-pub ten-more : (i v b : ℕ) → v < 10 ^ i → b ≤ 9 → v * 10 + b < 10 ^ (i + 1)
-ten-more i v b hv hb = rw (add-one, pow-suc) (omega arith)
-
-pub ten-le : (i v : ℕ) → v < 10 ^ i → i ≤ 4 → v < 10000
-ten-le i v h k = lt-of-lt-of-le h (pow-le-pow-right {n = 10} (omega arith) k)
 
 -- ---- words of marks
 

@@ -8,6 +8,7 @@ ghost use Rattle.model.specs.Limits.{limits};
 ghost use Rattle.model.specs.Sheet.{fieldAt, afterSpaces, digitsAfter, asField, fieldValue, valueAt, formRefusal, headRefusal, markAt, groupRefusal, groupFrom, groupCount, firstGroup, countFrom, constraintFrom, constraintRefusal, lineRefusal, refusedSheet, readSheet};
 ghost use Rattle.sheet.specs.Line.{lineLength, goodMark};
 use model::Constraint;
+use model::Digits;
 use model::FieldValue;
 use model::Group;
 use model::Model;
@@ -40,24 +41,14 @@ fn unspaced(f: &[u8]) -> &[u8]
     &f[i..]
 }
 
-// The number that digits stand for.
+// The number that the digits of a field stand for.
 fn decimal(d: &[u8]) -> FieldValue
     requires { ⌜ length (now d) ≤ 4 ⌝ }
     ensures { λ r. ⌜ r ≡ asField (digitsAfter 0 (now (d .entry))) ⌝ }
 {
-    let mut v: u32 = 0;
-    let mut i: usize = 0;
-    while i < d.len() {
-        let b = d[i];
-        if b < 48 {
-            return FieldValue::Bad;
-        }
-        if 57 < b {
-            return FieldValue::Bad;
-        }
-        v = v * 10 + (b - 48) as u32;
-        i += 1;
-    }
+    let Digits::Number(v) = model::decimal(d) else {
+        return FieldValue::Bad;
+    };
     FieldValue::Number(v)
 }
 

@@ -1,67 +1,47 @@
--- `decimal` gives the number that digits stand for. Invariant: it is the number of the digits from i on, after v. Assumes nothing.
-use Prim.Native.Nat.{_≤_, _<_, _-_, _^_}
-use mathlib.Core.Path.{_≡_, _∙_, sym, ap}
-use lib.ListN.{length, drop}
-use Rattle.model.specs.Sheet.{digitsAfter, asField}
-use Rattle.sheet.proofs.Laws.{at-end, digits-more, digits-low, digits-high, ten-more, ten-le}
+-- `decimal` gives the number of a field's digits. Assumes nothing.
+use mathlib.Core.Path.{_≡_, refl, _∙_, sym, ap}
+use mathlib.Core.Option.{Option, none, some}
+use mathlib.Core.List.{List}
+use Prim.Native.Nat.{ℕ, _≤_}
+use lib.ListN.{length}
+use lib.Dec.{leb}
+use Rattle.model.specs.declared.Digits.{Digits}
+use Rattle.model.specs.declared.Digits.the-variants.{Number, Bad}
+use Rattle.model.specs.declared.FieldValue.{FieldValue}
+use Rattle.model.specs.declared.FieldValue.the-variants.{Number as IsNumber, Bad as IsBad}
+use Rattle.model.specs.Sheet.{digitsAfter, asDigits, asField, shortNumber}
 use native.Mathlib.Omega.{arith}
+use borrow.Author.Tests.{le-leb}
 use borrow.Author.Needs.{needs}
 use Rattle.sheet.proofs.decimal.Statement.{statement}
 use Rattle.sheet.proofs.decimal.Tie as tie
 
-abbrev Inv-loop : tie.InvT-loop
-Inv-loop d v₀ i₀ v i = (i ≤ length d) × (v < 10 ^ i) × (digitsAfter 0 d ≡ digitsAfter v (drop i d))
+short : (l : List ℕ) (d : Digits) → length l ≤ 4 → d ≡ shortNumber l → d ≡ asDigits (digitsAfter 0 l)
+unfolding shortNumber
+short l d h e = e ∙ rw (le-leb (length l) 9 (omega arith))
 
-abbrev μ-loop : tie.MeasureT-loop
-μ-loop d v₀ i₀ v i = length d - i
+bad : (o : Option ℕ) → Bad ≡ asDigits o → IsBad ≡ asField o
+bad none e = refl
+bad (some v) e = let z : _≡_ {A = ℕ} 0 1 = cc in absurd (omega arith)
 
-loop-holds : tie.Need-loop-holds Inv-loop μ-loop
-loop-holds c = search needs
+number : (v : ℕ) (o : Option ℕ) → Number v ≡ asDigits o → IsNumber v ≡ asField o
+number v none e = let z : _≡_ {A = ℕ} 0 1 = cc in absurd (omega arith)
+number v (some w) e = let q : v ≡ w = cc in ap IsNumber q
 
-shared-slice-read-b : tie.Need-shared-slice-read-b Inv-loop μ-loop
-shared-slice-read-b c = search needs
+decimal-requires : tie.Need-decimal-requires
+decimal-requires c κs = search needs
 
-returns : tie.Need-returns Inv-loop μ-loop
-returns c = sym (ap asField ((c .before .before .before .loop .inv) .2 ∙ digits-low (c .before .before .before .before .args .d .now) (c .before .before .before .loop .i) (omega arith) (c .before .before .before .loop .v) (c .if1 .taken)))
+enum-known-v : tie.Need-enum-known-v
+enum-known-v c = search needs
 
-returns-2 : tie.Need-returns-2 Inv-loop μ-loop
-returns-2 c = sym (ap asField ((c .before .before .before .before .loop .inv) .2 ∙ digits-high (c .before .before .before .before .before .args .d .now) (c .before .before .before .before .loop .i) (omega arith) (c .before .before .before .before .loop .v) (c .if2 .taken)))
+enum-told : tie.Need-enum-told
+enum-told c = search needs
 
-mul-v : tie.Need-mul-v Inv-loop μ-loop
-mul-v c = omega (arith, ten-le (c .before .before .before .before .loop .i) (c .before .before .before .before .loop .v) ((c .before .before .before .before .loop .inv) .1) (omega arith))
+returns : tie.Need-returns
+returns c = bad (digitsAfter 0 (c .before .before .before .before .args .d .now)) (sym (c .enum-told .given .1) ∙ short (c .before .before .before .before .args .d .now) (c .before .before .decimal .result) (c .before .before .before .before .pre) (c .before .before .decimal .ensures))
 
-cast-v : tie.Need-cast-v Inv-loop μ-loop
-cast-v c = omega arith
-
-add-v : tie.Need-add-v Inv-loop μ-loop
-add-v c = omega (arith, ten-le (c .before .before .before .before .loop .i) (c .before .before .before .before .loop .v) ((c .before .before .before .before .loop .inv) .1) (omega arith))
-
-add-i : tie.Need-add-i Inv-loop μ-loop
-add-i c = search needs
-
-loop-less : tie.Need-loop-less Inv-loop μ-loop
-loop-less c = search needs
-
-loop-again : tie.Need-loop-again Inv-loop μ-loop
-loop-again c = (search needs, ten-more (c .before .before .before .before .loop .i) _ _ ((c .before .before .before .before .loop .inv) .1) (omega arith), (c .before .before .before .before .loop .inv) .2 ∙ digits-more (c .before .before .before .before .before .args .d .now) (c .before .before .before .before .loop .i) (omega arith) (c .before .before .before .before .loop .v) (c .before .if1 .left) (c .if2 .left))
-
-returns-3 : tie.Need-returns-3 Inv-loop μ-loop
-returns-3 c = sym (ap asField ((c .before .loop .inv) .2 ∙ ap (digitsAfter _) (at-end (c .before .before .args .d .now) (c .before .loop .i) (omega arith))))
+returns-2 : tie.Need-returns-2
+returns-2 c = number _ (digitsAfter 0 (c .before .before .before .before .before .args .d .now)) (sym (c .before .v .given .1) ∙ short (c .before .before .before .before .before .args .d .now) (c .before .before .before .decimal .result) (c .before .before .before .before .before .pre) (c .before .before .before .decimal .ensures))
 
 pub decimal-spec : {M : Type 1} → statement M
-decimal-spec =
-    tie.close
-    (tie.spec
-    Inv-loop
-    μ-loop
-    loop-holds
-    shared-slice-read-b
-    returns
-    returns-2
-    mul-v
-    cast-v
-    add-v
-    add-i
-    loop-less
-    loop-again
-    returns-3)
+decimal-spec = tie.close (tie.spec decimal-requires enum-known-v enum-told returns returns-2)

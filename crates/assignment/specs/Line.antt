@@ -1,0 +1,52 @@
+-- What the line reader's helpers answer, in the definitions' terms.
+use Prim.Native.Nat.{ℕ, zero, suc, _-_}
+use mathlib.Core.Bool.{Bool, true, false, cond, _||_}
+use mathlib.Core.List.{List, [], _∷_, _++_}
+use mathlib.Core.Option.{Option, none, some}
+use lib.Dec.{ltb, eqb}
+use lib.ListN.{length, getD}
+use Rattle.model.specs.declared.Literal.{Literal}
+use Rattle.model.specs.declared.Word.{Word}
+use Rattle.model.specs.declared.Word.the-variants.{Names, Closing, Malformed}
+use Rattle.model.specs.Lists.{any, stop}
+use Rattle.model.specs.Assignment.{wordValue, Said, isSaid, variable}
+use Rattle.model.specs.declared.Digits.{Digits}
+use Rattle.model.specs.declared.Digits.the-variants.{Number, Bad}
+use Rattle.assignment.specs.declared.Form.{Form}
+use Rattle.assignment.specs.declared.Form.the-variants.{Wrong, Open, Closed}
+
+-- how many bytes stand before the first space
+abbrev pub wordLength : List ℕ → ℕ
+wordLength [] = 0
+wordLength (b ∷ bs) = cond (eqb b 32) 0 (suc (wordLength bs))
+
+abbrev pub asOption : Digits → Option ℕ
+asOption (Number v) = some v
+asOption Bad = none
+
+-- the form of a line: bad, good, good with a closing 0
+abbrev pub formFrom : Option Said → Form
+formFrom none = Wrong
+formFrom (some s) = cond (s .closed) Closed Open
+
+-- the literals of words, up to the first that is none
+abbrev pub ifNames : Word → List Literal → List Literal
+ifNames (Names l) ls = l ∷ ls
+ifNames Closing ls = []
+ifNames Malformed ls = []
+
+abbrev pub named : List (List ℕ) → List Literal
+named [] = []
+named (w ∷ ws) = ifNames (wordValue w) (named ws)
+
+-- some literal names variable v
+abbrev pub names? : ℕ → List Literal → Bool
+names? v ls = any (λ k. eqb (variable k) v) ls
+
+-- 11 and 12 of literals, after those that the line has named so far
+abbrev pub judged : List Literal → List Literal → List ℕ → ℕ
+judged seen [] values = 0
+judged seen (l ∷ ls) values =
+    stop (ltb (length values) (variable l)) 11
+    (stop (isSaid (getD values (variable l - 1) 0)) 12
+    (stop (names? (variable l) seen) 12 (judged (seen ++ (l ∷ [])) ls values)))
