@@ -1,0 +1,131 @@
+-- The words of a line one by one: what stands from place `at` on. Assumes nothing.
+use Prim.Native.Nat.{ℕ, zero, suc, _+_, _-_, _≤_, _<_, min}
+use mathlib.Core.Path.{_≡_, refl, ap, sym, _∙_, subst}
+use mathlib.Core.Bool.{Bool, true, false, cond}
+use mathlib.Core.List.{List, [], _∷_}
+use mathlib.Core.Option.{Option, none, some}
+use native.Mathlib.Numerals.{add-one}
+use native.Mathlib.Decide.{decLt}
+use native.Mathlib.Omega.{arith}
+use borrow.Author.Tests.{eq-eqb, ne-eqb, eqb-true}
+use lib.Dec.{eqb}
+use lib.ListN.{length, take, drop, getD, length-take, length-drop}
+use lib.Seq.{take-all, drop-drop}
+use Rattle.model.specs.declared.Literal.{Literal}
+use Rattle.model.specs.declared.Word.{Word}
+use Rattle.model.specs.declared.Word.the-variants.{Names, Closing, Malformed}
+use Rattle.model.specs.Sheet.{onFirst}
+use Rattle.model.specs.Assignment.{wordsOf, wordValue, Said, nothingSaid, withLiteral, sayWord, sayWords}
+use Rattle.model.proofs.Loops.{drop-next}
+use Rattle.assignment.specs.declared.Form.{Form}
+use Rattle.assignment.specs.declared.Form.the-variants.{Wrong, Open, Closed}
+use Rattle.assignment.specs.Line.{wordLength, formFrom, ifNames, named}
+
+module _ (l : List ℕ) (i : ℕ) (h : i < length l) where
+  pub word-more : (getD l i 0 ≡ 32 → ⊥) → wordLength (drop i l) ≡ suc (wordLength (drop (i + 1) l))
+  word-more e = rw (drop-next 0 l i h) (simp (ne-eqb _ _ e))
+
+  pub word-stop : getD l i 0 ≡ 32 → wordLength (drop i l) ≡ 0
+  word-stop e = rw (drop-next 0 l i h) (simp (eq-eqb _ _ e))
+
+pub word-le : (l : List ℕ) → wordLength l ≤ length l
+word-le [] = omega arith
+word-le (b ∷ bs) = go (eqb b 32) (word-le bs)
+  where
+    go : (t : Bool) → wordLength bs ≤ length bs → cond t 0 (suc (wordLength bs)) ≤ suc (length bs)
+    go true h = omega arith
+    go false h = omega arith
+
+-- the last word, and a word before others
+pub words-last : (l : List ℕ) → wordLength l ≡ length l → wordsOf l ≡ l ∷ []
+words-last [] h = refl
+words-last (b ∷ bs) h = go (eqb b 32) refl (words-last bs) h
+  where
+    go : (t : Bool) → eqb b 32 ≡ t → (wordLength bs ≡ length bs → wordsOf bs ≡ bs ∷ []) → cond t 0 (suc (wordLength bs)) ≡ suc (length bs)
+        → cond t ([] ∷ wordsOf bs) (onFirst b (wordsOf bs)) ≡ (b ∷ bs) ∷ []
+    go true e ih h = absurd (omega arith)
+    go false e ih h = rw (ih (omega arith))
+
+pub words-more : (l : List ℕ) → wordLength l < length l → wordsOf l ≡ take (wordLength l) l ∷ wordsOf (drop (wordLength l + 1) l)
+words-more [] h = absurd (omega arith)
+words-more (b ∷ bs) h = go (eqb b 32) (words-more bs) h
+  where
+    go : (t : Bool) → (wordLength bs < length bs → wordsOf bs ≡ take (wordLength bs) bs ∷ wordsOf (drop (wordLength bs + 1) bs))
+        → cond t 0 (suc (wordLength bs)) < suc (length bs)
+        → cond t ([] ∷ wordsOf bs) (onFirst b (wordsOf bs)) ≡ take (cond t 0 (suc (wordLength bs))) (b ∷ bs) ∷ wordsOf (drop (cond t 0 (suc (wordLength bs)) + 1) (b ∷ bs))
+    go true ih h = refl
+    go false ih h = rw (ih (omega arith), add-one (wordLength bs), add-one (suc (wordLength bs)))
+
+-- ---- from place `at` on, where the code's parts are `rest` and its first k bytes
+
+module _ (s : List ℕ) (at k : ℕ) (place : at ≤ length s) (e : k ≡ wordLength (take (length s - at) (drop at s))) where
+  pub rest-is : take (length s - at) (drop at s) ≡ drop at s
+  rest-is = take-all (length s - at) (drop at s) (rw (length-drop at s) (omega arith))
+
+  k-is : k ≡ wordLength (drop at s)
+  k-is = e ∙ ap wordLength rest-is
+
+  pub k-le : at + k ≤ length s
+  k-le = omega (arith, k-is, word-le (drop at s), length-drop at s)
+
+  abbrev word : List ℕ
+  word = take k (take (length s - at) (drop at s))
+
+  word-is : word ≡ take (wordLength (drop at s)) (drop at s)
+  word-is = rw (rest-is, k-is)
+
+  pub word-size : k ≡ length word
+  word-size = sym (length-take k (take (length s - at) (drop at s)) ∙ ap (min k) (ap length rest-is ∙ length-drop at s) ∙ omega (arith, k-le))
+
+  pub is-last : at + k ≡ length s → wordsOf (drop at s) ≡ word ∷ []
+  is-last h =
+      let n : wordLength (drop at s) ≡ length (drop at s) = omega (arith, k-is, length-drop at s) in
+      words-last (drop at s) n ∙ ap (λ (w : List ℕ). w ∷ []) (sym (word-is ∙ take-all (wordLength (drop at s)) (drop at s) (omega (arith, n))))
+
+  pub is-more : at + k < length s → wordsOf (drop at s) ≡ word ∷ wordsOf (drop (at + k + 1) s)
+  is-more h =
+      let n : wordLength (drop at s) < length (drop at s) = omega (arith, k-is, length-drop at s) in
+      let j : at + (wordLength (drop at s) + 1) ≡ at + k + 1 = omega (arith, k-is) in
+      words-more (drop at s) n
+      ∙ ap (λ (w : List ℕ). w ∷ wordsOf (drop (wordLength (drop at s) + 1) (drop at s))) (sym word-is)
+      ∙ ap (λ (l : List ℕ). word ∷ wordsOf l) (drop-drop (wordLength (drop at s) + 1) at s ∙ ap (λ (n : ℕ). drop n s) j)
+
+  pub is-some : (ws : List (List ℕ)) × (wordsOf (drop at s) ≡ word ∷ ws)
+  is-some = go (decLt (at + k) (length s))
+    where
+      go : Dec (at + k < length s) → (ws : List (List ℕ)) × (wordsOf (drop at s) ≡ word ∷ ws)
+      go (yes h) = (wordsOf (drop (at + k + 1) s), is-more h)
+      go (no f) = ([], is-last (omega (arith, k-le)))
+
+-- there is always a word
+pub words-some : (l : List ℕ) → (v : List ℕ) × (vs : List (List ℕ)) × (wordsOf l ≡ v ∷ vs)
+words-some [] = ([], [], refl)
+words-some (b ∷ bs) = go (eqb b 32) (words-some bs)
+  where
+    go : (t : Bool) → (v : List ℕ) × (vs : List (List ℕ)) × (wordsOf bs ≡ v ∷ vs)
+        → (v : List ℕ) × (vs : List (List ℕ)) × (cond t ([] ∷ wordsOf bs) (onFirst b (wordsOf bs)) ≡ v ∷ vs)
+    go true r = ([], wordsOf bs, refl)
+    go false r = (b ∷ r .0, r .1, ap (onFirst b) (r .2))
+
+-- ---- the form of words
+
+form-after : (l : Literal) (o : Option Said) → formFrom (withLiteral l o) ≡ formFrom o
+form-after l none = refl
+form-after l (some s) = refl
+
+module _ (w : List ℕ) (ws : List (List ℕ)) where
+  pub form-malformed : wordValue w ≡ Malformed → formFrom (sayWords (w ∷ ws)) ≡ Wrong
+  form-malformed e = rw e
+
+  pub form-names : (l : Literal) → wordValue w ≡ Names l → formFrom (sayWords (w ∷ ws)) ≡ formFrom (sayWords ws)
+  form-names l e = rw e (form-after l (sayWords ws))
+
+  pub form-closing : wordValue w ≡ Closing → ws ≡ [] → formFrom (sayWords (w ∷ ws)) ≡ Closed
+  form-closing e n = rw (e, n)
+
+  pub form-not-last : wordValue w ≡ Closing → (v : List ℕ) (vs : List (List ℕ)) → ws ≡ v ∷ vs → formFrom (sayWords (w ∷ ws)) ≡ Wrong
+  form-not-last e v vs n = rw (e, n)
+
+pub form-none : formFrom (sayWords []) ≡ Open
+unfolding nothingSaid
+form-none = refl
