@@ -7,15 +7,20 @@ use mathlib.Core.Option.{Option, none, some}
 use native.Mathlib.Numerals.{add-one}
 use native.Mathlib.Decide.{decLt}
 use native.Mathlib.Omega.{arith}
-use borrow.Author.Tests.{eq-eqb, ne-eqb, eqb-true}
-use lib.Dec.{eqb}
-use lib.ListN.{length, take, drop, getD, length-take, length-drop}
+use borrow.Author.Tests.{eq-eqb, ne-eqb, ltb-false}
+use denote.Enum.Declared.{tagOf}
+use types.Run.{OneOf, miss}
+use Rattle.model.proofs.Word.{the-type}
+use Rattle.model.proofs.Solver.{word-named}
+use lib.Dec.{ltb, eqb}
+use lib.ListN.{length, take, drop, getD, set, length-take, length-drop}
 use lib.Seq.{take-all, drop-drop}
 use Rattle.model.specs.declared.Literal.{Literal}
 use Rattle.model.specs.declared.Word.{Word}
 use Rattle.model.specs.declared.Word.the-variants.{Names, Closing, Malformed}
+use Rattle.model.specs.Lists.{stop}
 use Rattle.model.specs.Sheet.{onFirst}
-use Rattle.model.specs.Assignment.{wordsOf, wordValue, Said, nothingSaid, withLiteral, sayWord, sayWords}
+use Rattle.model.specs.Assignment.{wordsOf, wordValue, Said, nothingSaid, withLiteral, sayWord, sayWords, isSaid, variable, valueFor, withValue, literalsRefusal, withValues}
 use Rattle.model.proofs.Loops.{drop-next}
 use Rattle.assignment.specs.declared.Form.{Form}
 use Rattle.assignment.specs.declared.Form.the-variants.{Wrong, Open, Closed}
@@ -129,3 +134,76 @@ module _ (w : List ℕ) (ws : List (List ℕ)) where
 pub form-none : formFrom (sayWords []) ≡ Open
 unfolding nothingSaid
 form-none = refl
+
+-- ---- the literals of words
+
+module _ (w : List ℕ) (ws : List (List ℕ)) where
+  pub named-names : (l : Literal) → wordValue w ≡ Names l → named (w ∷ ws) ≡ l ∷ named ws
+  named-names l e = rw e
+
+-- a word that is no literal ends them
+abbrev pub isNames : Word → Bool
+isNames (Names l) = true
+isNames Closing = false
+isNames Malformed = false
+
+pub named-end : (w : List ℕ) (ws : List (List ℕ)) → isNames (wordValue w) ≡ false → named (w ∷ ws) ≡ []
+named-end w ws e = go (wordValue w) e
+  where
+    go : (x : Word) → isNames x ≡ false → ifNames x (named ws) ≡ []
+    go (Names l) e = let z : _≡_ {A = ℕ} 0 1 = cc in absurd (omega arith)
+    go Closing e = refl
+    go Malformed e = refl
+
+-- the else of `let Word::Names(l) = .. else`
+pub not-names : (x : Word) → OneOf (1 ∷ 2 ∷ []) (tagOf the-type x) → isNames x ≡ false
+not-names (Names l) k = absurd (miss (1 ∷ 2 ∷ []) 0 tt k)
+not-names Closing k = refl
+not-names Malformed k = refl
+
+-- ---- the first of literals that bring no refusal
+
+pub literal-good : (l : Literal) (ls : List Literal) (values : List ℕ) → literalsRefusal (l ∷ ls) values ≡ 0
+    → (variable l ≤ length values) × (literalsRefusal ls (withValue l values) ≡ 0)
+literal-good l ls values e = go (ltb (length values) (variable l)) refl (isSaid (getD values (variable l - 1) 0)) e
+  where
+    go : (a : Bool) → ltb (length values) (variable l) ≡ a → (b : Bool) → stop a 11 (stop b 12 (literalsRefusal ls (withValue l values))) ≡ 0
+        → (variable l ≤ length values) × (literalsRefusal ls (withValue l values) ≡ 0)
+    go true p b e = absurd (omega arith)
+    go false p true e = absurd (omega arith)
+    go false p false e = (ltb-false (length values) (variable l) p, e)
+
+-- one literal written: v and x are its variable and its value
+module _ (s : List ℕ) (start values : List ℕ) (at k : ℕ) (place : at ≤ length s) (e : k ≡ wordLength (take (length s - at) (drop at s)))
+    (inv : withValues (named (wordsOf s)) start ≡ withValues (named (wordsOf (drop at s))) values)
+    (good : literalsRefusal (named (wordsOf (drop at s))) values ≡ 0)
+    (l : Literal) (is : wordValue (take k (take (length s - at) (drop at s))) ≡ Names l) where
+  pub literal-named : 1 ≤ variable l
+  literal-named = word-named (take k (take (length s - at) (drop at s))) l is
+
+  named-here : (ws : List (List ℕ)) → wordsOf (drop at s) ≡ take k (take (length s - at) (drop at s)) ∷ ws → named (wordsOf (drop at s)) ≡ l ∷ named ws
+  named-here ws q = ap named q ∙ named-names (take k (take (length s - at) (drop at s))) ws l is
+
+  pub literal-fits : variable l ≤ length values
+  literal-fits =
+      let w = is-some s at k place e in
+      literal-good l (named (w .0)) values (subst (λ (ls : List Literal). literalsRefusal ls values ≡ 0) (named-here (w .0) (w .1)) good) .0
+
+  module _ (v x : ℕ) (p : v ≡ variable l) (q : x ≡ valueFor l) where
+    stored : set values (v - 1) x ≡ withValue l values
+    unfolding withValue
+    stored = rw (p, q)
+
+    pub written-last : at + k ≡ length s → set values (v - 1) x ≡ withValues (named (wordsOf s)) start
+    written-last h =
+        stored ∙ sym (inv ∙ ap (λ (ls : List Literal). withValues ls values) (named-here [] (is-last s at k place e h)))
+
+    pub written-more : at + k < length s
+        → (withValues (named (wordsOf s)) start ≡ withValues (named (wordsOf (drop (at + k + 1) s))) (set values (v - 1) x))
+        × (literalsRefusal (named (wordsOf (drop (at + k + 1) s))) (set values (v - 1) x) ≡ 0)
+    written-more h =
+        let n = named-here (wordsOf (drop (at + k + 1) s)) (is-more s at k place e h) in (
+          inv ∙ ap (λ (ls : List Literal). withValues ls values) n ∙ ap (withValues (named (wordsOf (drop (at + k + 1) s)))) (sym stored),
+          subst (λ (vs : List ℕ). literalsRefusal (named (wordsOf (drop (at + k + 1) s))) vs ≡ 0) (sym stored)
+          (literal-good l (named (wordsOf (drop (at + k + 1) s))) values (subst (λ (ls : List Literal). literalsRefusal ls values ≡ 0) n good) .1),
+        )

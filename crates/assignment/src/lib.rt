@@ -104,3 +104,67 @@ fn words_form(s: &[u8]) -> Form
     }
     Form::Wrong
 }
+
+// The form of a line whose first byte is `v`.
+fn line_form(line: &[u8]) -> Form
+    requires { ⌜ (0 < length (now line)) × (getD (now line) 0 0 ≡ 118) ⌝ }
+    ensures { λ r. ⌜ r ≡ formFrom (formOf (now (line .entry))) ⌝ }
+{
+    if line.len() == 1 {
+        return Form::Open;
+    }
+    if line[1] != 32 {
+        return Form::Wrong;
+    }
+    words_form(&line[2..])
+}
+
+// Whether a byte says a value.
+fn is_said(b: u8) -> bool
+    ensures { λ r. ⌜ r ≡ isSaid b ⌝ }
+{
+    if b < 1 {
+        return false;
+    }
+    b <= 2
+}
+
+fn variable_of(l: Literal) -> u32
+    ensures { λ r. ⌜ r ≡ variable l ⌝ }
+{
+    match l {
+        Literal::Pos(v) => v,
+        Literal::Neg(v) => v,
+    }
+}
+
+fn value_for(l: Literal) -> u8
+    ensures { λ r. ⌜ r ≡ valueFor l ⌝ }
+{
+    match l {
+        Literal::Pos(_) => 1,
+        Literal::Neg(_) => 2,
+    }
+}
+
+// Writes the literals of the words of s.
+fn write_literals(s: &[u8], values: &mut [u8])
+    requires { ⌜ literalsRefusal (named (wordsOf (now s))) (now values) ≡ 0 ⌝ }
+    ensures { λ r. ⌜ now (values .exit) ≡ withValues (named (wordsOf (now (s .entry)))) (now (values .entry)) ⌝ }
+{
+    let n = s.len();
+    let mut at: usize = 0;
+    while at <= n {
+        let rest = &s[at..];
+        let k = word_length(rest);
+        let Word::Names(l) = word_value(&rest[..k]) else {
+            return;
+        };
+        let i = (variable_of(l) - 1) as usize;
+        values[i] = value_for(l);
+        if at + k == n {
+            return;
+        }
+        at = at + k + 1;
+    }
+}
