@@ -1,11 +1,11 @@
 -- The words of a line one by one: what stands from place `at` on. Assumes nothing.
 use Prim.Native.Nat.{ℕ, zero, suc, _+_, _-_, _≤_, _<_, min}
 use mathlib.Core.Path.{_≡_, refl, ap, sym, _∙_, subst}
-use mathlib.Core.Bool.{Bool, true, false, cond}
-use mathlib.Core.List.{List, [], _∷_}
+use mathlib.Core.Bool.{Bool, true, false, cond, _||_}
+use mathlib.Core.List.{List, [], _∷_, _++_}
 use mathlib.Core.Option.{Option, none, some}
 use native.Mathlib.Numerals.{add-one}
-use native.Mathlib.Decide.{decLt}
+use native.Mathlib.Decide.{decLt, ℕ-discrete}
 use native.Mathlib.Omega.{arith}
 use borrow.Author.Tests.{eq-eqb, ne-eqb, ltb-false}
 use denote.Enum.Declared.{tagOf}
@@ -13,18 +13,19 @@ use types.Run.{OneOf, miss}
 use Rattle.model.proofs.Word.{the-type}
 use Rattle.model.proofs.Solver.{word-named}
 use lib.Dec.{ltb, eqb}
-use lib.ListN.{length, take, drop, getD, set, length-take, length-drop}
-use lib.Seq.{take-all, drop-drop}
+use lib.ListN.{length, take, drop, getD, set, replicate, length-take, length-drop, length-set, length-replicate, getD-replicate}
+use lib.Seq.{take-all, take-nil, drop-drop, getD-set-same, getD-set-other}
 use Rattle.model.specs.declared.Literal.{Literal}
 use Rattle.model.specs.declared.Word.{Word}
 use Rattle.model.specs.declared.Word.the-variants.{Names, Closing, Malformed}
 use Rattle.model.specs.Lists.{stop}
 use Rattle.model.specs.Sheet.{onFirst}
 use Rattle.model.specs.Assignment.{wordsOf, wordValue, Said, nothingSaid, withLiteral, sayWord, sayWords, isSaid, variable, valueFor, withValue, literalsRefusal, withValues}
+use Rattle.model.proofs.Lists.{any-append}
 use Rattle.model.proofs.Loops.{drop-next}
 use Rattle.assignment.specs.declared.Form.{Form}
 use Rattle.assignment.specs.declared.Form.the-variants.{Wrong, Open, Closed}
-use Rattle.assignment.specs.Line.{wordLength, formFrom, ifNames, named}
+use Rattle.assignment.specs.Line.{wordLength, formFrom, ifNames, named, names?, judged, Noted, notedWith}
 
 module _ (l : List ℕ) (i : ℕ) (h : i < length l) where
   pub word-more : (getD l i 0 ≡ 32 → ⊥) → wordLength (drop i l) ≡ suc (wordLength (drop (i + 1) l))
@@ -205,5 +206,70 @@ module _ (s : List ℕ) (start values : List ℕ) (at k : ℕ) (place : at ≤ l
         let n = named-here (wordsOf (drop (at + k + 1) s)) (is-more s at k place e h) in (
           inv ∙ ap (λ (ls : List Literal). withValues ls values) n ∙ ap (withValues (named (wordsOf (drop (at + k + 1) s)))) (sym stored),
           subst (λ (vs : List ℕ). literalsRefusal (named (wordsOf (drop (at + k + 1) s))) vs ≡ 0) (sym stored)
-          (literal-good l (named (wordsOf (drop (at + k + 1) s))) values (subst (λ (ls : List Literal). literalsRefusal ls values ≡ 0) n good) .1),
+              (literal-good l (named (wordsOf (drop (at + k + 1) s))) values (subst (λ (ls : List Literal). literalsRefusal ls values ≡ 0) n good) .1),
         )
+
+-- ---- looking for a variable among the first literals
+
+module _ (s : List ℕ) (v at k : ℕ) (place : at ≤ length s) (e : k ≡ wordLength (take (length s - at) (drop at s))) (count i : ℕ) (more : i < count) (b : Bool)
+    (inv : b ≡ names? v (take (count - i) (named (wordsOf (drop at s))))) where
+  next-count : count - i ≡ suc (count - (i + 1))
+  next-count = omega arith
+
+  pub look-end : isNames (wordValue (take k (take (length s - at) (drop at s)))) ≡ false → b ≡ false
+  look-end f =
+      let w = is-some s at k place e in
+      inv ∙ ap (λ (ls : List Literal). names? v (take (count - i) ls)) (ap named (w .1) ∙ named-end (take k (take (length s - at) (drop at s))) (w .0) f)
+      ∙ ap (names? v) (take-nil (count - i))
+
+  module _ (l : Literal) (is : wordValue (take k (take (length s - at) (drop at s))) ≡ Names l) where
+    look-first : (ws : List (List ℕ)) → wordsOf (drop at s) ≡ take k (take (length s - at) (drop at s)) ∷ ws
+        → b ≡ (eqb (variable l) v || names? v (take (count - (i + 1)) (named ws)))
+    look-first ws q =
+        inv ∙ ap (λ (ls : List Literal). names? v (take (count - i) ls)) (ap named q ∙ named-names (take k (take (length s - at) (drop at s))) ws l is)
+        ∙ ap (λ (n : ℕ). names? v (take n (l ∷ named ws))) next-count
+
+    pub look-found : (x : ℕ) → x ≡ variable l → x ≡ v → b ≡ true
+    look-found x p q = let w = is-some s at k place e in look-first (w .0) (w .1) ∙ rw (eq-eqb (variable l) v (sym p ∙ q))
+
+    pub look-last : (x : ℕ) → x ≡ variable l → (x ≡ v → ⊥) → at + k ≡ length s → b ≡ false
+    look-last x p f h =
+        look-first [] (is-last s at k place e h) ∙ rw (ne-eqb (variable l) v (λ q. f (p ∙ q))) (ap (names? v) (take-nil (count - (i + 1))))
+
+    pub look-more : (x : ℕ) → x ≡ variable l → (x ≡ v → ⊥) → at + k < length s → b ≡ names? v (take (count - (i + 1)) (named (wordsOf (drop (at + k + 1) s))))
+    look-more x p f h = look-first (wordsOf (drop (at + k + 1) s)) (is-more s at k place e h) ∙ rw (ne-eqb (variable l) v (λ q. f (p ∙ q)))
+
+-- ---- flags
+
+pub noted-next : (flags : List ℕ) (seen : List Literal) (l : Literal) (v : ℕ) → v ≡ variable l → 1 ≤ v → Noted flags seen → Noted (notedWith v flags) (seen ++ (l ∷ []))
+unfolding notedWith
+noted-next flags seen l v p h n = go (ltb (v - 1) 65536) refl
+  where
+    or-true : (a b : Bool) → b ≡ true → (a || (b || false)) ≡ true
+    or-true true b e = refl
+    or-true false b e = rw e
+
+    or-false : (a b : Bool) → b ≡ false → (a || (b || false)) ≡ a
+    or-false true b e = refl
+    or-false false b e = rw e
+
+    same : (i : ℕ) → i < 65536 → Dec (i ≡ v - 1) → eqb (getD (set flags (v - 1) 1) i 0) 1 ≡ names? (suc i) (seen ++ (l ∷ []))
+    same i r (yes q) =
+        rw (any-append (λ k. eqb (variable k) (suc i)) seen (l ∷ []), q, getD-set-same flags (v - 1) 1 0 (omega (arith, n .size, q, r)))
+        (sym (or-true (names? (suc (v - 1)) seen) (eqb (variable l) (suc (v - 1))) (eq-eqb (variable l) (suc (v - 1)) (omega (arith, p, h)))))
+    same i r (no f) =
+        rw (any-append (λ k. eqb (variable k) (suc i)) seen (l ∷ []), getD-set-other flags (v - 1) i 1 0 f)
+        (n .at i r ∙ sym (or-false (names? (suc i) seen) (eqb (variable l) (suc i)) (ne-eqb (variable l) (suc i) (λ q. f (omega (arith, p, q))))))
+
+    past : ltb (v - 1) 65536 ≡ false → (i : ℕ) → i < 65536 → eqb (getD flags i 0) 1 ≡ names? (suc i) (seen ++ (l ∷ []))
+    past q i r =
+        let b = ltb-false (v - 1) 65536 q in
+        rw (any-append (λ k. eqb (variable k) (suc i)) seen (l ∷ []))
+        (n .at i r ∙ sym (or-false (names? (suc i) seen) (eqb (variable l) (suc i)) (ne-eqb (variable l) (suc i) (λ z. omega (arith, p, z, b, r)))))
+
+    go : (b : Bool) → ltb (v - 1) 65536 ≡ b → Noted (cond b (set flags (v - 1) 1) flags) (seen ++ (l ∷ []))
+    go true q = record { size = length-set flags (v - 1) 1 ∙ n .size; at = λ i r. same i r (ℕ-discrete i (v - 1)) }
+    go false q = record { size = n .size; at = past q }
+
+pub noted-none : Noted (replicate 65536 0) []
+noted-none = record { size = length-replicate {A = ℕ} 65536 0; at = λ i r. ap (λ (x : ℕ). eqb x 1) (getD-replicate 65536 i 0 0 r) }

@@ -1,10 +1,11 @@
 -- What the line reader's helpers answer, in the definitions' terms.
-use Prim.Native.Nat.{ℕ, zero, suc, _-_}
+use mathlib.Core.Path.{_≡_}
+use Prim.Native.Nat.{ℕ, zero, suc, _-_, _<_}
 use mathlib.Core.Bool.{Bool, true, false, cond, _||_}
 use mathlib.Core.List.{List, [], _∷_, _++_}
 use mathlib.Core.Option.{Option, none, some}
 use lib.Dec.{ltb, eqb}
-use lib.ListN.{length, getD}
+use lib.ListN.{length, getD, set}
 use Rattle.model.specs.declared.Literal.{Literal}
 use Rattle.model.specs.declared.Word.{Word}
 use Rattle.model.specs.declared.Word.the-variants.{Names, Closing, Malformed}
@@ -29,6 +30,16 @@ abbrev pub formFrom : Option Said → Form
 formFrom none = Wrong
 formFrom (some s) = cond (s .closed) Closed Open
 
+abbrev pub isWrong : Form → Bool
+isWrong Wrong = true
+isWrong Open = false
+isWrong Closed = false
+
+abbrev pub isClosed : Form → Bool
+isClosed Wrong = false
+isClosed Open = false
+isClosed Closed = true
+
 -- the literals of words, up to the first that is none
 abbrev pub ifNames : Word → List Literal → List Literal
 ifNames (Names l) ls = l ∷ ls
@@ -50,3 +61,12 @@ judged seen (l ∷ ls) values =
     stop (ltb (length values) (variable l)) 11
     (stop (isSaid (getD values (variable l - 1) 0)) 12
     (stop (names? (variable l) seen) 12 (judged (seen ++ (l ∷ [])) ls values)))
+
+-- ---- the flags: place i holds 1 exactly when variable i + 1 was named
+
+pub record Noted (flags : List ℕ) (seen : List Literal) : Type 0 where
+  pub size : length flags ≡ 65536
+  pub at : (i : ℕ) → i < 65536 → eqb (getD flags i 0) 1 ≡ names? (suc i) seen
+
+unfoldable pub notedWith : ℕ → List ℕ → List ℕ
+notedWith v flags = cond (ltb (v - 1) 65536) (set flags (v - 1) 1) flags

@@ -1,11 +1,12 @@
 // Solver lines: the form of the whole line first, then its literals one by one, and only then any value is written.
 ghost use mathlib.Core.Path.{_≡_};
+ghost use mathlib.Core.Bool.{false};
 ghost use Prim.Native.Nat.{ℕ, _≤_, _<_, _+_};
 ghost use mathlib.Core.List.{List};
 ghost use lib.Dec.{eqb};
 ghost use lib.ListN.{length, getD, take, set};
 ghost use Rattle.model.specs.Assignment.{wordsOf, variableIn, wordValue, sayWords, formOf, isSaid, variable, valueFor, literalsRefusal, withValues, lineRead, valuesAfter};
-ghost use Rattle.assignment.specs.Line.{wordLength, asOption, formFrom, named, names?, judged};
+ghost use Rattle.assignment.specs.Line.{wordLength, asOption, formFrom, named, names?, isWrong, isClosed, Noted, notedWith};
 use model::Digits;
 use model::LineRead;
 use model::Literal;
@@ -167,4 +168,184 @@ fn write_literals(s: &[u8], values: &mut [u8])
         }
         at = at + k + 1;
     }
+}
+
+// Variables up to this one are noted in an array of flags, so that a line that names them all is judged in linear time.
+const NOTED: usize = 65536;
+
+// Whether one of the first `count` literals of the words of s names v.
+fn named_before(s: &[u8], count: usize, v: u32) -> bool
+    ensures { λ r. ⌜ r ≡ names? v (take count (named (wordsOf (now (s .entry))))) ⌝ }
+{
+    let n = s.len();
+    let mut at: usize = 0;
+    let mut i: usize = 0;
+    while i < count {
+        let rest = &s[at..];
+        let k = word_length(rest);
+        let Word::Names(l) = word_value(&rest[..k]) else {
+            return false;
+        };
+        if variable_of(l) == v {
+            return true;
+        }
+        if at + k == n {
+            return false;
+        }
+        at = at + k + 1;
+        i += 1;
+    }
+    false
+}
+
+// The same, by the flags where they reach.
+fn is_seen(flags: &[u8; NOTED], s: &[u8], count: usize, v: u32) -> bool
+    requires { ⌜ Noted (now flags) (take count (named (wordsOf (now s)))) ⌝ }
+    requires { ⌜ 1 ≤ v ⌝ }
+    ensures { λ r. ⌜ r ≡ names? v (take count (named (wordsOf (now (s .entry))))) ⌝ }
+{
+    let i = (v - 1) as usize;
+    if i < NOTED {
+        return flags[i] == 1;
+    }
+    named_before(s, count, v)
+}
+
+// Notes variable v.
+fn note(flags: &mut [u8; NOTED], v: u32)
+    requires { ⌜ 1 ≤ v ⌝ }
+    ensures { λ r. ⌜ now (flags .exit) ≡ notedWith v (now (flags .entry)) ⌝ }
+{
+    let i = (v - 1) as usize;
+    if i < NOTED {
+        flags[i] = 1;
+    }
+}
+
+// Refusals 11 and 12 of the literals of the words of s.
+fn literals_refusal(s: &[u8], values: &[u8]) -> u32
+    ensures { λ r. ⌜ r ≡ literalsRefusal (named (wordsOf (now (s .entry)))) (now (values .entry)) ⌝ }
+{
+    let n = s.len();
+    let mut flags = [0u8; NOTED];
+    let mut at: usize = 0;
+    let mut count: usize = 0;
+    while at <= n {
+        let rest = &s[at..];
+        let k = word_length(rest);
+        let Word::Names(l) = word_value(&rest[..k]) else {
+            return 0;
+        };
+        let v = variable_of(l);
+        if values.len() < v as usize {
+            return 11;
+        }
+        let i = (v - 1) as usize;
+        if is_said(values[i]) {
+            return 12;
+        }
+        if is_seen(&flags, s, count, v) {
+            return 12;
+        }
+        note(&mut flags, v);
+        count += 1;
+        if at + k == n {
+            return 0;
+        }
+        at = at + k + 1;
+    }
+    0
+}
+
+fn is_wrong(f: Form) -> bool
+    ensures { λ r. ⌜ r ≡ isWrong f ⌝ }
+{
+    match f {
+        Form::Wrong => true,
+        Form::Open => false,
+        Form::Closed => false,
+    }
+}
+
+fn is_closed(f: Form) -> bool
+    ensures { λ r. ⌜ r ≡ isClosed f ⌝ }
+{
+    match f {
+        Form::Wrong => false,
+        Form::Open => false,
+        Form::Closed => true,
+    }
+}
+
+// A line whose first byte is `v`, with no closing 0 read before it.
+fn read_values(reading: Reading, line: &[u8], values: &mut [u8]) -> LineRead
+    requires { ⌜ (0 < length (now line)) × (getD (now line) 0 0 ≡ 118) × (reading .closed ≡ false) ⌝ }
+    ensures { λ r. ⌜ r ≡ lineRead reading (now (line .entry)) (now (values .entry)) ⌝ }
+    ensures { λ r. ⌜ now (values .exit) ≡ valuesAfter reading (now (line .entry)) (now (values .entry)) ⌝ }
+{
+    let form = line_form(line);
+    if is_wrong(form) {
+        return LineRead {
+            refusal: 10,
+            reading,
+        };
+    }
+    let closed = is_closed(form);
+    if line.len() == 1 {
+        return LineRead {
+            refusal: 0,
+            reading: Reading { closed },
+        };
+    }
+    let bad = literals_refusal(&line[2..], values);
+    if bad != 0 {
+        return LineRead {
+            refusal: bad,
+            reading,
+        };
+    }
+    write_literals(&line[2..], values);
+    LineRead {
+        refusal: 0,
+        reading: Reading { closed },
+    }
+}
+
+// A solver line read: refused with its number and nothing changed, or its literals written.
+pub fn read_line(reading: Reading, line: &[u8], values: &mut [u8]) -> LineRead
+    ensures { λ r. ⌜ r ≡ lineRead reading (now (line .entry)) (now (values .entry)) ⌝ }
+    ensures { λ r. ⌜ now (values .exit) ≡ valuesAfter reading (now (line .entry)) (now (values .entry)) ⌝ }
+{
+    if line.len() == 0 {
+        return LineRead {
+            refusal: 10,
+            reading,
+        };
+    }
+    let first = line[0];
+    if first == 99 {
+        return LineRead {
+            refusal: 0,
+            reading,
+        };
+    }
+    if first == 115 {
+        return LineRead {
+            refusal: 0,
+            reading,
+        };
+    }
+    if first != 118 {
+        return LineRead {
+            refusal: 10,
+            reading,
+        };
+    }
+    if reading.closed {
+        return LineRead {
+            refusal: 25,
+            reading,
+        };
+    }
+    read_values(reading, line, values)
 }

@@ -1,0 +1,189 @@
+-- Judging a line's literals against the values as they came and the literals before them is judging them against the values as they would become.
+-- Assumes nothing.
+use Prim.Native.Nat.{ℕ, zero, suc, _+_, _-_, _≤_, _<_}
+use mathlib.Core.Path.{_≡_, refl, ap, ap₂, sym, _∙_, subst}
+use mathlib.Core.Bool.{Bool, true, false, cond, _||_}
+use mathlib.Core.List.{List, [], _∷_, _++_, append-assoc}
+use native.Mathlib.Decide.{ℕ-discrete}
+use native.Mathlib.Omega.{arith}
+use native.Mathlib.Numerals.{add-one}
+use borrow.Author.Tests.{eq-eqb, ne-eqb, ltb-false, lt-ltb, le-ltb}
+use lib.Dec.{ltb, eqb}
+use lib.ListN.{length, getD, set, take, drop, length-set, length-append, length-take}
+use lib.Seq.{getD-set-same, getD-set-other, take-at}
+use Rattle.model.specs.declared.Literal.{Literal}
+use Rattle.model.specs.declared.Literal.the-variants.{Pos, Neg}
+use Rattle.model.specs.declared.Word.{Word}
+use Rattle.model.specs.declared.Word.the-variants.{Names, Closing, Malformed}
+use Rattle.model.specs.Lists.{stop}
+use Rattle.model.specs.Assignment.{wordsOf, wordValue, isSaid, variable, valueFor, withValue, literalsRefusal, withValues}
+use Rattle.model.proofs.Lists.{All, all-append, or-assoc}
+use Rattle.model.proofs.Solver.{Named, word-named}
+use Rattle.assignment.specs.Line.{wordLength, ifNames, named, names?, judged, Noted, notedWith}
+use Rattle.assignment.proofs.Words.{is-some, is-last, is-more, isNames, named-names, named-end, noted-next}
+
+pub named-all : (ws : List (List ℕ)) → All Named (named ws)
+named-all [] = tt
+named-all (w ∷ ws) = go (wordValue w) refl (named-all ws)
+  where
+    go : (x : Word) → wordValue w ≡ x → All Named (named ws) → All Named (ifNames x (named ws))
+    go (Names l) e h = (word-named w l e, h)
+    go Closing e h = tt
+    go Malformed e h = tt
+
+-- ---- the values with literals written
+
+with-length : (ls : List Literal) (values : List ℕ) → length (withValues ls values) ≡ length values
+unfolding withValue
+with-length [] values = refl
+with-length (l ∷ ls) values = with-length ls (withValue l values) ∙ length-set values (variable l - 1) (valueFor l)
+
+with-last : (ls : List Literal) (l : Literal) (values : List ℕ) → withValues (ls ++ (l ∷ [])) values ≡ withValue l (withValues ls values)
+with-last [] l values = refl
+with-last (k ∷ ks) l values = with-last ks l (withValue k values)
+
+value-said : (l : Literal) → isSaid (valueFor l) ≡ true
+unfolding isSaid
+value-said (Pos v) = refl
+value-said (Neg v) = refl
+
+one-said : (l : Literal) → Named l → (values : List ℕ) (i : ℕ) → i < length values
+    → isSaid (getD (withValue l values) i 0) ≡ (isSaid (getD values i 0) || eqb (variable l) (suc i))
+unfolding withValue
+one-said l n values i h = go (ℕ-discrete i (variable l - 1))
+  where
+    or-true : (a : Bool) → (a || true) ≡ true
+    or-true true = refl
+    or-true false = refl
+
+    or-false : (a : Bool) → (a || false) ≡ a
+    or-false true = refl
+    or-false false = refl
+
+    go : Dec (i ≡ variable l - 1) → isSaid (getD (set values (variable l - 1) (valueFor l)) i 0) ≡ (isSaid (getD values i 0) || eqb (variable l) (suc i))
+    go (yes q) =
+        rw (eq-eqb (variable l) (suc i) (omega (arith, q, n)))
+        (ap (λ (j : ℕ). isSaid (getD (set values (variable l - 1) (valueFor l)) j 0)) q
+        ∙ ap isSaid (getD-set-same values (variable l - 1) (valueFor l) 0 (omega (arith, q, h)))
+        ∙ value-said l ∙ sym (or-true (isSaid (getD values i 0))))
+    go (no f) =
+        rw (ne-eqb (variable l) (suc i) (λ z. f (omega (arith, z))), getD-set-other values (variable l - 1) i (valueFor l) 0 f)
+        (sym (or-false (isSaid (getD values i 0))))
+
+said-after : (ls : List Literal) → All Named ls → (values : List ℕ) (i : ℕ) → i < length values
+    → isSaid (getD (withValues ls values) i 0) ≡ (isSaid (getD values i 0) || names? (suc i) ls)
+said-after [] n values i h = sym (or-false (isSaid (getD values i 0)))
+  where
+    or-false : (a : Bool) → (a || false) ≡ a
+    or-false true = refl
+    or-false false = refl
+said-after (l ∷ ls) n values i h =
+    said-after ls (n .1) (withValue l values) i (subst (λ (k : ℕ). i < k) (sym (with-length (l ∷ []) values)) h)
+    ∙ ap (λ (b : Bool). b || names? (suc i) ls) (one-said l (n .0) values i h)
+    ∙ or-assoc (isSaid (getD values i 0)) (eqb (variable l) (suc i)) (names? (suc i) ls)
+
+stop-or : (a b : Bool) (r x : ℕ) → stop (a || b) r x ≡ stop a r (stop b r x)
+stop-or true b r x = refl
+stop-or false b r x = refl
+
+pub judged-is : (ls seen : List Literal) (values : List ℕ) → All Named seen → All Named ls → literalsRefusal ls (withValues seen values) ≡ judged seen ls values
+judged-is [] seen values n m = refl
+judged-is (l ∷ ls) seen values n m =
+    rw (with-length seen values)
+    (go
+      (ap (literalsRefusal ls) (sym (with-last seen l values)) ∙ judged-is ls (seen ++ (l ∷ [])) values (all-append Named seen (l ∷ []) n (m .0, tt)) (m .1))
+      (ltb (length values) (variable l)) refl)
+  where
+    go : literalsRefusal ls (withValue l (withValues seen values)) ≡ judged (seen ++ (l ∷ [])) ls values → (a : Bool) → ltb (length values) (variable l) ≡ a
+        → stop a 11 (stop (isSaid (getD (withValues seen values) (variable l - 1) 0)) 12 (literalsRefusal ls (withValue l (withValues seen values))))
+        ≡ stop a 11 (stop (isSaid (getD values (variable l - 1) 0)) 12 (stop (names? (variable l) seen) 12 (judged (seen ++ (l ∷ [])) ls values)))
+    go ih true p = refl
+    go ih false p =
+        let i : suc (variable l - 1) ≡ variable l = omega (arith, m .0) in
+        let s = said-after seen n values (variable l - 1) (omega (arith, ltb-false (length values) (variable l) p, m .0)) in
+        let t = ap (λ (x : ℕ). isSaid (getD values (variable l - 1) 0) || names? x seen) i in
+        rw (s ∙ t, ih) (stop-or (isSaid (getD values (variable l - 1) 0)) (names? (variable l) seen) 12 (judged (seen ++ (l ∷ [])) ls values))
+
+-- ---- the loop over a line's literals: `count` of them were looked at and are noted, the rest stands from place `at` on
+
+pub record Looking (s values flags : List ℕ) (at count : ℕ) : Type 0 where
+  pub place : at ≤ length s
+  pub few : count ≤ at
+  pub parts : named (wordsOf s) ≡ take count (named (wordsOf s)) ++ named (wordsOf (drop at s))
+  pub long : length (take count (named (wordsOf s))) ≡ count
+  pub noted : Noted flags (take count (named (wordsOf s)))
+  pub same : literalsRefusal (named (wordsOf s)) values ≡ judged (take count (named (wordsOf s))) (named (wordsOf (drop at s))) values
+
+pub look-start : (s values flags : List ℕ) → Noted flags [] → Looking s values flags 0 0
+look-start s values flags n = record {
+  place = omega arith;
+  few = omega arith;
+  parts = refl;
+  long = refl;
+  noted = n;
+  same = judged-is (named (wordsOf s)) [] values tt (named-all (wordsOf s));
+}
+
+module _ (s values flags : List ℕ) (at count : ℕ) (h : Looking s values flags at count) (k : ℕ) (e : k ≡ wordLength (take (length s - at) (drop at s))) where
+  abbrev word : List ℕ
+  word = take k (take (length s - at) (drop at s))
+
+  abbrev all : List Literal
+  all = named (wordsOf s)
+
+  pub judge-end : isNames (wordValue word) ≡ false → literalsRefusal (named (wordsOf s)) values ≡ 0
+  judge-end f =
+      let w = is-some s at k (h .place) e in
+      h .same ∙ ap (λ (ls : List Literal). judged (take count all) ls values) (ap named (w .1) ∙ named-end word (w .0) f)
+
+  module _ (l : Literal) (is : wordValue word ≡ Names l) where
+    here : (ws : List (List ℕ)) → wordsOf (drop at s) ≡ word ∷ ws → named (wordsOf (drop at s)) ≡ l ∷ named ws
+    here ws q = ap named q ∙ named-names word ws l is
+
+    pub judge-named : 1 ≤ variable l
+    judge-named = word-named word l is
+
+    step : (ws : List (List ℕ)) → wordsOf (drop at s) ≡ word ∷ ws → literalsRefusal all values ≡ judged (take count all) (l ∷ named ws) values
+    step ws q = h .same ∙ ap (λ (ls : List Literal). judged (take count all) ls values) (here ws q)
+
+    pub judge-11 : length values < variable l → literalsRefusal (named (wordsOf s)) values ≡ 11
+    judge-11 x = let w = is-some s at k (h .place) e in step (w .0) (w .1) ∙ rw (lt-ltb (length values) (variable l) x)
+
+    module _ (low : variable l ≤ length values) where
+      pub judge-said : isSaid (getD values (variable l - 1) 0) ≡ true → literalsRefusal (named (wordsOf s)) values ≡ 12
+      judge-said x = let w = is-some s at k (h .place) e in step (w .0) (w .1) ∙ rw (le-ltb (length values) (variable l) low, x)
+
+      module _ (free : isSaid (getD values (variable l - 1) 0) ≡ false) where
+        pub judge-seen : names? (variable l) (take count (named (wordsOf s))) ≡ true → literalsRefusal (named (wordsOf s)) values ≡ 12
+        judge-seen x = let w = is-some s at k (h .place) e in step (w .0) (w .1) ∙ rw (le-ltb (length values) (variable l) low, free, x)
+
+        module _ (new : names? (variable l) (take count (named (wordsOf s))) ≡ false) where
+          good : (ws : List (List ℕ)) → wordsOf (drop at s) ≡ word ∷ ws → literalsRefusal all values ≡ judged (take count all ++ (l ∷ [])) (named ws) values
+          good ws q = step ws q ∙ rw (le-ltb (length values) (variable l) low, free, new)
+
+          pub judge-last : at + k ≡ length s → literalsRefusal (named (wordsOf s)) values ≡ 0
+          judge-last x = good [] (is-last s at k (h .place) e x)
+
+          pub judge-more : at + k < length s → (v : ℕ) → v ≡ variable l → Looking s values (notedWith v flags) (at + k + 1) (count + 1)
+          judge-more x v p = record {
+            place = omega arith;
+            few = omega (arith, h .few);
+            parts = split ∙ ap (λ (ls : List Literal). ls ++ rest) (sym taken);
+            long = ap length taken ∙ size;
+            noted = subst (λ (ls : List Literal). Noted (notedWith v flags) ls) (sym taken) (noted-next flags (take count all) l v p (subst (λ (y : ℕ). 1 ≤ y) (sym p) judge-named) (h .noted));
+            same = good (wordsOf (drop (at + k + 1) s)) (is-more s at k (h .place) e x) ∙ ap (λ (ls : List Literal). judged ls rest values) (sym taken);
+          }
+            where
+              rest : List Literal
+              rest = named (wordsOf (drop (at + k + 1) s))
+
+              split : all ≡ (take count all ++ (l ∷ [])) ++ rest
+              split =
+                  h .parts ∙ ap (λ (ls : List Literal). take count all ++ ls) (here (wordsOf (drop (at + k + 1) s)) (is-more s at k (h .place) e x))
+                  ∙ sym (append-assoc (take count all) (l ∷ []) rest)
+
+              size : length (take count all ++ (l ∷ [])) ≡ count + 1
+              size = length-append (take count all) (l ∷ []) ∙ ap (λ (n : ℕ). n + 1) (h .long)
+
+              taken : take (count + 1) all ≡ take count all ++ (l ∷ [])
+              taken = ap (take (count + 1)) split ∙ take-at (take count all ++ (l ∷ [])) rest (count + 1) size
