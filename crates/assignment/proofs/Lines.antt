@@ -1,0 +1,182 @@
+-- A whole `v` line: its form, what a refused one answers and what a taken one does. Assumes nothing.
+use Prim.Native.Nat.{ℕ, zero, suc, _+_, _-_, _≤_, _<_}
+use mathlib.Core.Path.{_≡_, refl, ap, sym, _∙_}
+use mathlib.Core.Bool.{Bool, true, false, cond, not, _&&_}
+use mathlib.Core.List.{List, [], _∷_}
+use mathlib.Core.Option.{Option, none, some}
+use native.Mathlib.Decide.{ℕ-discrete}
+use native.Mathlib.Omega.{arith}
+use borrow.Author.Tests.{eq-eqb, ne-eqb}
+use lib.Dec.{eqb}
+use lib.ListN.{length, getD, take, drop}
+use lib.Seq.{take-all}
+use Rattle.model.specs.declared.Literal.{Literal}
+use Rattle.model.specs.declared.Word.{Word}
+use Rattle.model.specs.declared.Word.the-variants.{Names, Closing, Malformed}
+use Rattle.model.specs.declared.Reading.{Reading}
+use Rattle.model.specs.declared.LineRead.{LineRead}
+use Rattle.model.specs.Assignment.{wordsOf, wordValue, Said, nothingSaid, withLiteral, sayWord, sayWords, afterV, formOf, literalsRefusal, withValues, saidRefusal, isPassedOver, callRefusal, isTaken, saidBy, lineRead, valuesAfter}
+use Rattle.assignment.specs.declared.Form.{Form}
+use Rattle.assignment.specs.declared.Form.the-variants.{Wrong, Open, Closed}
+use Rattle.assignment.specs.Line.{formFrom, isWrong, isClosed, ifNames, named}
+use Rattle.assignment.proofs.Words.{words-some}
+
+-- ---- the form
+
+-- `v` alone says nothing
+pub alone : (l : List ℕ) → getD l 0 0 ≡ 118 → length l ≡ 1 → formOf l ≡ some nothingSaid
+unfolding formOf
+alone [] e h = absurd (omega arith)
+alone (b ∷ []) e h = rw e
+alone (b ∷ c ∷ bs) e h = absurd (omega arith)
+
+-- `v` and a space
+pub spaced : (l : List ℕ) → getD l 0 0 ≡ 118 → (length l ≡ 1 → ⊥) → 0 < length l → getD l 1 0 ≡ 32
+    → formOf l ≡ sayWords (wordsOf (take (length l - 2) (drop 2 l)))
+unfolding formOf
+spaced [] e f h g = absurd (omega arith)
+spaced (b ∷ []) e f h g = absurd (f refl)
+spaced (b ∷ c ∷ bs) e f h g =
+    let t : take (length (b ∷ c ∷ bs) - 2) bs ≡ bs = take-all (length (b ∷ c ∷ bs) - 2) bs (omega arith) in
+    rw (t, e, g)
+
+-- `v` and another byte
+pub joined : (l : List ℕ) → getD l 0 0 ≡ 118 → (length l ≡ 1 → ⊥) → 0 < length l → (getD l 1 0 ≡ 32 → ⊥) → formOf l ≡ none
+unfolding formOf
+joined [] e f h g = absurd (omega arith)
+joined (b ∷ []) e f h g = absurd (f refl)
+joined (b ∷ c ∷ bs) e f h g =
+    let w = words-some bs in
+    let n : eqb (suc (suc (length (w .0)))) 1 ≡ false = ne-eqb (suc (suc (length (w .0)))) 1 (λ q. omega (arith, q)) in
+    rw (e, ne-eqb c 32 g, w .2) (rw n)
+
+-- a good form says something, closed or not
+pub said-of : (o : Option Said) (f : Form) → f ≡ formFrom o → isWrong f ≡ false → (s : Said) × (o ≡ some s) × (s .closed ≡ isClosed f)
+said-of none f e w = let z : _≡_ {A = ℕ} 0 1 = contradiction (ap isWrong (sym e) ∙ w) in absurd (omega arith)
+  where
+    contradiction : true ≡ false → _≡_ {A = ℕ} 0 1
+    contradiction q = cc
+said-of (some s) f e w = (s, refl, sym (ap isClosed e ∙ go (s .closed)))
+  where
+    go : (b : Bool) → isClosed (cond b Closed Open) ≡ b
+    go true = refl
+    go false = refl
+
+pub wrong-of : (o : Option Said) (f : Form) → f ≡ formFrom o → isWrong f ≡ true → o ≡ none
+wrong-of none f e w = refl
+wrong-of (some s) f e w = let z : _≡_ {A = ℕ} 0 1 = contradiction (sym (ap isWrong e ∙ go (s .closed)) ∙ w) in absurd (omega arith)
+  where
+    go : (b : Bool) → isWrong (cond b Closed Open) ≡ false
+    go true = refl
+    go false = refl
+
+    contradiction : false ≡ true → _≡_ {A = ℕ} 0 1
+    contradiction q = cc
+
+-- a line longer than `v`, of good form, is `v`, a space and words
+pub is-spaced : (l : List ℕ) → getD l 0 0 ≡ 118 → (length l ≡ 1 → ⊥) → 0 < length l → (s : Said) → formOf l ≡ some s
+    → sayWords (wordsOf (take (length l - 2) (drop 2 l))) ≡ some s
+is-spaced l e f h s q = go (ℕ-discrete (getD l 1 0) 32)
+  where
+    go : Dec (getD l 1 0 ≡ 32) → sayWords (wordsOf (take (length l - 2) (drop 2 l))) ≡ some s
+    go (yes g) = sym (spaced l e f h g) ∙ q
+    go (no g) = let n = joined l e f h g in let z : _≡_ {A = ℕ} 0 1 = cc in absurd (omega arith)
+
+-- the literals that words say are those that they name
+pub say-named : (ws : List (List ℕ)) (s : Said) → sayWords ws ≡ some s → s .literals ≡ named ws
+unfolding nothingSaid
+say-named [] s e = let q : record { literals = []; closed = false } ≡ s = cc in ap (λ (x : Said). x .literals) (sym q)
+say-named (w ∷ ws) s e = go (wordValue w) (say-named ws) e
+  where
+    with-literal : (l : Literal) (o : Option Said) → sayWords ws ≡ o → ((s : Said) → sayWords ws ≡ some s → s .literals ≡ named ws)
+        → withLiteral l o ≡ some s → s .literals ≡ l ∷ named ws
+    with-literal l none q ih e = let n : _≡_ {A = ℕ} 0 1 = cc in absurd (omega arith)
+    with-literal l (some r) q ih e =
+        let p : record { literals = l ∷ r .literals; closed = r .closed } ≡ s = cc in
+        ap (λ (x : Said). x .literals) (sym p) ∙ ap (λ (ls : List Literal). l ∷ ls) (ih r q)
+
+    closed-here : (vs : List (List ℕ)) → sayWord Closing vs (sayWords ws) ≡ some s → s .literals ≡ []
+    closed-here [] e = let p : record { literals = []; closed = true } ≡ s = cc in ap (λ (x : Said). x .literals) (sym p)
+    closed-here (v ∷ vs) e = let n : _≡_ {A = ℕ} 0 1 = cc in absurd (omega arith)
+
+    go : (x : Word) → ((s : Said) → sayWords ws ≡ some s → s .literals ≡ named ws) → sayWord x ws (sayWords ws) ≡ some s → s .literals ≡ ifNames x (named ws)
+    go Malformed ih e = let n : _≡_ {A = ℕ} 0 1 = cc in absurd (omega arith)
+    go Closing ih e = closed-here ws e
+    go (Names l) ih e = with-literal l (sayWords ws) refl ih e
+
+-- ---- the call
+
+module _ (r : Reading) (line values : List ℕ) (first : getD line 0 0 ≡ 118) (ready : r .closed ≡ false) where
+  passed : isPassedOver line ≡ false
+  unfolding isPassedOver
+  passed = rw first
+
+  chain : callRefusal r line values ≡ saidRefusal (formOf line) values
+  unfolding callRefusal
+  chain = rw (passed, first, ready)
+
+  taken : isTaken r line values ≡ eqb (saidRefusal (formOf line) values) 0
+  unfolding isTaken
+  taken = rw (passed, chain)
+
+  pub refused-line : (x : ℕ) → saidRefusal (formOf line) values ≡ x → (x ≡ 0 → ⊥)
+      → (record { refusal = x; reading = r } ≡ lineRead r line values) × (values ≡ valuesAfter r line values)
+  unfolding lineRead valuesAfter
+  refused-line x e f =
+      let t : isTaken r line values ≡ false = taken ∙ ap (λ (y : ℕ). eqb y 0) e ∙ ne-eqb x 0 f in
+      (rw (t, chain, e), rw t)
+
+  pub taken-line : (s : Said) → formOf line ≡ some s → literalsRefusal (s .literals) values ≡ 0
+      → (record { refusal = 0; reading = record { closed = s .closed } } ≡ lineRead r line values) × (withValues (s .literals) values ≡ valuesAfter r line values)
+  unfolding lineRead valuesAfter
+  taken-line s e z =
+      let q : saidRefusal (formOf line) values ≡ 0 = rw e z in
+      let t : isTaken r line values ≡ true = taken ∙ ap (λ (y : ℕ). eqb y 0) q in
+      (rw (t, chain, q, e), rw (t, e))
+
+-- ---- each way out of the call
+
+module _ (r : Reading) (line values : List ℕ) (first : getD line 0 0 ≡ 118) (ready : r .closed ≡ false) (some-byte : 0 < length line)
+    (f : Form) (ef : f ≡ formFrom (formOf line)) (wrong : Bool) (ew : wrong ≡ isWrong f) where
+  abbrev part : List ℕ
+  part = take (length line - 2) (drop 2 line)
+
+  pub out-wrong : wrong ≡ true → (record { refusal = 10; reading = r } ≡ lineRead r line values) × (values ≡ valuesAfter r line values)
+  out-wrong w = refused-line r line values first ready 10 (ap (λ (o : Option Said). saidRefusal o values) (wrong-of (formOf line) f ef (sym ew ∙ w))) (λ z. omega (arith, z))
+
+  module _ (w : wrong ≡ false) (closed : Bool) (ec : closed ≡ isClosed f) where
+    said : (s : Said) × (formOf line ≡ some s) × (s .closed ≡ isClosed f)
+    said = said-of (formOf line) f ef (sym ew ∙ w)
+
+    abbrev s : Said
+    s = said .0
+
+    closed-is : closed ≡ said .0 .closed
+    closed-is = ec ∙ sym (said .2)
+
+    pub out-alone : length line ≡ 1 → (record { refusal = 0; reading = record { closed = closed } } ≡ lineRead r line values) × (values ≡ valuesAfter r line values)
+    unfolding nothingSaid
+    out-alone h =
+        let e : nothingSaid ≡ said .0 = same (sym (alone line first h) ∙ said .1) in
+        let n : said .0 .literals ≡ [] = ap (λ (x : Said). x .literals) (sym e) in
+        let t = taken-line r line values first ready (said .0) (said .1) (rw n) in
+        (ap (λ (b : Bool). record { refusal = 0; reading = record { closed = b } }) closed-is ∙ t .0, ap (λ (ls : List Literal). withValues ls values) (sym n) ∙ t .1)
+      where
+        same : {x y : Said} → some x ≡ some y → x ≡ y
+        same q = cc
+
+    module _ (long : length line ≡ 1 → ⊥) (bad : ℕ) (eb : bad ≡ literalsRefusal (named (wordsOf (take (length line - 2) (drop 2 line)))) values) where
+      literals-are : said .0 .literals ≡ named (wordsOf (take (length line - 2) (drop 2 line)))
+      literals-are = say-named (wordsOf part) (said .0) (is-spaced line first long some-byte (said .0) (said .1))
+
+      bad-is : literalsRefusal (said .0 .literals) values ≡ bad
+      bad-is = ap (λ (ls : List Literal). literalsRefusal ls values) literals-are ∙ sym eb
+
+      pub out-refused : (bad ≡ 0 → ⊥) → (record { refusal = bad; reading = r } ≡ lineRead r line values) × (values ≡ valuesAfter r line values)
+      out-refused g = refused-line r line values first ready bad (ap (λ (o : Option Said). saidRefusal o values) (said .1) ∙ bad-is) g
+
+      pub out-taken : bad ≡ 0 → (after : List ℕ) → after ≡ withValues (named (wordsOf (take (length line - 2) (drop 2 line)))) values
+          → (record { refusal = 0; reading = record { closed = closed } } ≡ lineRead r line values) × (after ≡ valuesAfter r line values)
+      out-taken z after ea =
+          let t = taken-line r line values first ready (said .0) (said .1) (bad-is ∙ z) in
+          (ap (λ (b : Bool). record { refusal = 0; reading = record { closed = b } }) closed-is ∙ t .0, ea ∙ ap (λ (ls : List Literal). withValues ls values) (sym literals-are) ∙ t .1)
