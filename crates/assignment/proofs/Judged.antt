@@ -91,8 +91,8 @@ judged-is [] seen values n m = refl
 judged-is (l ∷ ls) seen values n m =
     rw (with-length seen values)
     (go
-      (ap (literalsRefusal ls) (sym (with-last seen l values)) ∙ judged-is ls (seen ++ (l ∷ [])) values (all-append Named seen (l ∷ []) n (m .0, tt)) (m .1))
-      (ltb (length values) (variable l)) refl)
+    (ap (literalsRefusal ls) (sym (with-last seen l values)) ∙ judged-is ls (seen ++ (l ∷ [])) values (all-append Named seen (l ∷ []) n (m .0, tt)) (m .1))
+    (ltb (length values) (variable l)) refl)
   where
     go : literalsRefusal ls (withValue l (withValues seen values)) ≡ judged (seen ++ (l ∷ [])) ls values → (a : Bool) → ltb (length values) (variable l) ≡ a
         → stop a 11 (stop (isSaid (getD (withValues seen values) (variable l - 1) 0)) 12 (literalsRefusal ls (withValue l (withValues seen values))))
