@@ -1,0 +1,138 @@
+-- Laws of the four arrays: what is read at a place, what a store makes of the groups, and loops of rules. Assumes nothing.
+use mathlib.Core.Path.{_≡_, refl, sym, ap, ap₂, _∙_, subst}
+use Prim.Native.Nat.{ℕ, zero, suc, _+_, _-_, _*_, _^_, _≤_, _<_}
+use native.Mathlib.Omega.{arith}
+use native.Mathlib.Decide.{decLt}
+use mathlib.Core.List.{List, [], _∷_, _++_, map}
+use lib.Bits.{bitAnd, bitOr}
+use lib.ListN.{length, getD, set, replicate}
+use lib.Seq.{set-getD}
+use Rattle.model.specs.declared.Literal.{Literal}
+use Rattle.model.specs.declared.Literal.the-variants.{Pos, Neg}
+use Rattle.model.specs.declared.Group.{Group}
+use Rattle.model.specs.Lists.{onPlace}
+use Rattle.model.specs.Limits.{limits}
+use Rattle.model.specs.Words.{less}
+use Rattle.model.specs.Clauses.{ofGroup}
+use Rattle.model.specs.Model.{zeroGroup, groupAt}
+use Rattle.model.specs.Propagate.{groupRule, groupRuleAt, falseIn, allFalse, fixedWith, possibleWithout, madeTrue}
+use Rattle.model.proofs.Lists.{place-length}
+use Rattle.propagate.specs.Flat.{group, zipped, Whole, Acts, AllFalse, Stands, LiteralStands}
+
+-- ---- a place
+
+-- two changes that agree on what stands at the place
+pub place-agree : {A : Type 0} (i : ℕ) (r q : A → A) (t : List A) (d : A) → (i < length t → r (getD t i d) ≡ q (getD t i d)) → onPlace i r t ≡ onPlace i q t
+place-agree i r q [] d h = refl
+place-agree zero r q (x ∷ t) d h = ap {B = List _} (λ y. y ∷ t) (h (omega arith))
+place-agree (suc i) r q (x ∷ t) d h = ap {B = List _} (λ l. x ∷ l) (place-agree i r q t d (λ l. h (omega arith)))
+
+-- what is read
+pub zipped-at : (f p l h : List ℕ) (i : ℕ) → i < length (zipped f p l h)
+    → getD (zipped f p l h) i zeroGroup ≡ group (getD f i 0) (getD p i 0) (getD l i 0) (getD h i 0)
+unfolding zipped
+zipped-at [] p l h i k = absurd (omega arith)
+zipped-at (a ∷ f) [] l h i k = absurd (omega arith)
+zipped-at (a ∷ f) (b ∷ p) [] h i k = absurd (omega arith)
+zipped-at (a ∷ f) (b ∷ p) (c ∷ l) [] i k = absurd (omega arith)
+zipped-at (a ∷ f) (b ∷ p) (c ∷ l) (d ∷ h) zero k = refl
+zipped-at (a ∷ f) (b ∷ p) (c ∷ l) (d ∷ h) (suc i) k = zipped-at f p l h i (omega arith)
+
+-- a store to each
+pub zipped-set : (f p l h : List ℕ) (i a b c d : ℕ)
+    → zipped (set f i a) (set p i b) (set l i c) (set h i d) ≡ onPlace i (λ g. group a b c d) (zipped f p l h)
+unfolding zipped
+zipped-set [] p l h i a b c d = refl
+zipped-set (x ∷ f) [] l h zero a b c d = refl
+zipped-set (x ∷ f) [] l h (suc i) a b c d = refl
+zipped-set (x ∷ f) (y ∷ p) [] h zero a b c d = refl
+zipped-set (x ∷ f) (y ∷ p) [] h (suc i) a b c d = refl
+zipped-set (x ∷ f) (y ∷ p) (z ∷ l) [] zero a b c d = refl
+zipped-set (x ∷ f) (y ∷ p) (z ∷ l) [] (suc i) a b c d = refl
+zipped-set (x ∷ f) (y ∷ p) (z ∷ l) (u ∷ h) zero a b c d = refl
+zipped-set (x ∷ f) (y ∷ p) (z ∷ l) (u ∷ h) (suc i) a b c d = ap {B = List Group} (λ t. group x y z u ∷ t) (zipped-set f p l h i a b c d)
+
+module _ (f p l h : List ℕ) (i : ℕ) where
+  abbrev here : Group
+  here = group (getD f i 0) (getD p i 0) (getD l i 0) (getD h i 0)
+
+  store : (r : Group → Group) (a b c d : ℕ) → group a b c d ≡ r here
+      → zipped (set f i a) (set p i b) (set l i c) (set h i d) ≡ onPlace i r (zipped f p l h)
+  store r a b c d e =
+      zipped-set f p l h i a b c d
+      ∙ place-agree i (λ g. group a b c d) r (zipped f p l h) zeroGroup (λ k. e ∙ ap r (sym (zipped-at f p l h i k)))
+
+  -- a rule of the group that stands there
+  pub rule-stored : (r : Group → Group) (g : Group) → g ≡ r (group (getD f i 0) (getD p i 0) (getD l i 0) (getD h i 0))
+      → zipped (set f i (g .fixed)) (set p i (g .possible)) (set l i (g .low)) (set h i (g .high)) ≡ onPlace i r (zipped f p l h)
+  rule-stored r g e = store r (g .fixed) (g .possible) (g .low) (g .high) e
+
+  pub fixed-stored : (w : ℕ) → zipped (set f i (bitOr (getD f i 0) w)) p l h ≡ onPlace i (fixedWith w) (zipped f p l h)
+  unfolding fixedWith
+  fixed-stored w =
+      sym (ap₂ (λ (q r : List ℕ). zipped (set f i (bitOr (getD f i 0) w)) q l r) (set-getD p i 0) (set-getD h i 0))
+      ∙ sym (ap (λ (q : List ℕ). zipped (set f i (bitOr (getD f i 0) w)) (set p i (getD p i 0)) q (set h i (getD h i 0))) (set-getD l i 0))
+      ∙ store (fixedWith w) (bitOr (getD f i 0) w) (getD p i 0) (getD l i 0) (getD h i 0) refl
+
+  pub possible-stored : (w : ℕ) → zipped f (set p i (less (getD p i 0) w)) l h ≡ onPlace i (possibleWithout w) (zipped f p l h)
+  unfolding possibleWithout
+  possible-stored w =
+      sym (ap₂ (λ (q r : List ℕ). zipped q (set p i (less (getD p i 0) w)) l r) (set-getD f i 0) (set-getD h i 0))
+      ∙ sym (ap (λ (q : List ℕ). zipped (set f i (getD f i 0)) (set p i (less (getD p i 0) w)) q (set h i (getD h i 0))) (set-getD l i 0))
+      ∙ store (possibleWithout w) (getD f i 0) (less (getD p i 0) w) (getD l i 0) (getD h i 0) refl
+
+-- ---- a literal, at the place of its group
+
+module _ (f p : List ℕ) (g i w : ℕ) (e : i ≡ g - 1) (small : i < limits .groups) where
+  at-group : (l h : List ℕ) → Whole (zipped f p l h) → groupAt (zipped f p l h) g ≡ group (getD f i 0) (getD p i 0) (getD l i 0) (getD h i 0)
+  unfolding groupAt
+  at-group l h k = ap (λ (x : ℕ). getD (zipped f p l h) x zeroGroup) (sym e) ∙ zipped-at f p l h i (omega arith)
+
+  pub negative-false : AllFalse (bitAnd w (getD f i 0)) f p w (Neg g ∷ [])
+  unfolding allFalse falseIn
+  negative-false l h k = ap (λ (x : Group). bitAnd w (x .fixed)) (sym (at-group l h k))
+
+  pub positive-false : AllFalse (less w (getD p i 0)) f p w (Pos g ∷ [])
+  unfolding allFalse falseIn
+  positive-false l h k = ap (λ (x : Group). less w (x .possible)) (sym (at-group l h k))
+
+  pub positive-true : Acts (madeTrue (Pos g) w) f p (set f i (bitOr (getD f i 0) w)) p
+  unfolding madeTrue
+  positive-true l h k = (ap length s ∙ place-length i (fixedWith w) (zipped f p l h) ∙ k, s ∙ ap (λ (x : ℕ). onPlace x (fixedWith w) (zipped f p l h)) e)
+    where
+      s : zipped (set f i (bitOr (getD f i 0) w)) p l h ≡ onPlace i (fixedWith w) (zipped f p l h)
+      s = fixed-stored f p l h i w
+
+  pub negative-true : Acts (madeTrue (Neg g) w) f p f (set p i (less (getD p i 0) w))
+  unfolding madeTrue
+  negative-true l h k =
+      (ap length s ∙ place-length i (possibleWithout w) (zipped f p l h) ∙ k, s ∙ ap (λ (x : ℕ). onPlace x (possibleWithout w) (zipped f p l h)) e)
+    where
+      s : zipped f (set p i (less (getD p i 0) w)) l h ≡ onPlace i (possibleWithout w) (zipped f p l h)
+      s = possible-stored f p l h i w
+
+-- the same for a literal of a member
+
+module _ (ids : List ℕ) (lit : Literal) (m : ℕ) where
+  pub stands-positive : lit ≡ Pos m → LiteralStands ids lit → Stands ids m
+  stands-positive q s = subst (LiteralStands ids) q s
+
+  pub stands-negative : lit ≡ Neg m → LiteralStands ids lit → Stands ids m
+  stands-negative q s = subst (LiteralStands ids) q s
+
+  module _ (f p : List ℕ) (i w : ℕ) (at : (i ≡ getD ids m 0 - 1) × (i < limits .groups)) where
+    pub member-positive-false : lit ≡ Pos m → (r : ℕ) → r ≡ less w (getD p i 0) → AllFalse r f p w (ofGroup ids lit ∷ [])
+    unfolding ofGroup
+    member-positive-false q r e = rw (q, e) (positive-false f p (getD ids m 0) i w (at .0) (at .1))
+
+    pub member-negative-false : lit ≡ Neg m → AllFalse (bitAnd w (getD f i 0)) f p w (ofGroup ids lit ∷ [])
+    unfolding ofGroup
+    member-negative-false q = rw q (negative-false f p (getD ids m 0) i w (at .0) (at .1))
+
+    pub member-positive-true : lit ≡ Pos m → Acts (madeTrue (ofGroup ids lit) w) f p (set f i (bitOr (getD f i 0) w)) p
+    unfolding ofGroup
+    member-positive-true q = rw q (positive-true f p (getD ids m 0) i w (at .0) (at .1))
+
+    pub member-negative-true : lit ≡ Neg m → (r : ℕ) → r ≡ less (getD p i 0) w → Acts (madeTrue (ofGroup ids lit) w) f p f (set p i r)
+    unfolding ofGroup
+    member-negative-true q r e = rw (q, e) (negative-true f p (getD ids m 0) i w (at .0) (at .1))
