@@ -3,20 +3,23 @@ use mathlib.Core.Path.{_≡_, refl, sym, ap, ap₂, _∙_, subst}
 use Prim.Native.Nat.{ℕ, zero, suc, _+_, _-_, _*_, _^_, _≤_, _<_}
 use native.Mathlib.Omega.{arith}
 use native.Mathlib.Decide.{decLt}
-use mathlib.Core.List.{List, [], _∷_, _++_, map}
+use native.Mathlib.Numerals.{add-one}
+use mathlib.Core.Bool.{Bool, true, false, _&&_}
+use mathlib.Core.List.{List, [], _∷_, _++_, append-nil}
 use lib.Bits.{bitAnd, bitOr}
-use lib.ListN.{length, getD, set, replicate}
-use lib.Seq.{set-getD}
+use lib.ListN.{length, getD, set, take, drop, replicate, length-take, length-replicate, drop-of-length-le}
+use lib.Seq.{set-getD, set-at, append-snoc, drop-cons, take-suc, take-all, length-take-le, getD-take}
 use Rattle.model.specs.declared.Literal.{Literal}
 use Rattle.model.specs.declared.Literal.the-variants.{Pos, Neg}
 use Rattle.model.specs.declared.Group.{Group}
-use Rattle.model.specs.Lists.{onPlace}
+use Rattle.model.specs.Lists.{onPlace, pairwise}
 use Rattle.model.specs.Limits.{limits}
 use Rattle.model.specs.Words.{less}
 use Rattle.model.specs.Clauses.{ofGroup}
 use Rattle.model.specs.Model.{zeroGroup, groupAt}
-use Rattle.model.specs.Propagate.{groupRule, groupRuleAt, falseIn, allFalse, fixedWith, possibleWithout, madeTrue}
-use Rattle.model.proofs.Lists.{place-length}
+use Rattle.model.specs.Propagate.{groupRule, groupRuleAt, falseIn, allFalse, fixedWith, possibleWithout, madeTrue, sameGroup, sameTable}
+use Rattle.model.proofs.Lists.{place-length, place-set}
+use Rattle.model.proofs.Loops.{drop-next}
 use Rattle.propagate.specs.Flat.{group, zipped, Whole, Acts, AllFalse, Stands, LiteralStands}
 
 -- ---- a place
@@ -136,3 +139,72 @@ module _ (ids : List ℕ) (lit : Literal) (m : ℕ) where
     pub member-negative-true : lit ≡ Neg m → (r : ℕ) → r ≡ less (getD p i 0) w → Acts (madeTrue (ofGroup ids lit) w) f p f (set p i r)
     unfolding ofGroup
     member-negative-true q r e = rw (q, e) (negative-true f p (getD ids m 0) i w (at .0) (at .1))
+
+-- ---- a list that becomes another place by place
+
+pub seam-next : {A : Type 0} (a b : List A) (i : ℕ) (d : A) → i < length a → i < length b
+    → set (take i a ++ drop i b) i (getD a i d) ≡ take (i + 1) a ++ drop (i + 1) b
+seam-next a b i d h k =
+    ap (λ l. set (take i a ++ l) i (getD a i d)) (drop-cons b i d k)
+    ∙ set-at (take i a) (getD b i d) (drop (suc i) b) (getD a i d) i (length-take-le i a (omega arith))
+    ∙ sym (append-snoc (take i a) (getD a i d) (drop (suc i) b))
+    ∙ sym (ap (λ l. l ++ drop (suc i) b) (take-suc a i d h))
+    ∙ sym (ap (λ (n : ℕ). take n a ++ drop n b) (add-one i))
+
+-- all of it
+pub seam-end : {A : Type 0} (a b : List A) (i : ℕ) → length a ≤ i → length b ≤ i → take i a ++ drop i b ≡ a
+seam-end a b i h k = ap₂ {C = List _} (λ x y. x ++ y) (take-all i a h) (drop-of-length-le b k) ∙ append-nil a
+
+zipped-zero : (n : ℕ) → zipped (replicate n 0) (replicate n 0) (replicate n 0) (replicate n 0) ≡ replicate n zeroGroup
+unfolding zipped zeroGroup
+zipped-zero zero = refl
+zipped-zero (suc n) = ap {B = List Group} (λ l. group 0 0 0 0 ∷ l) (zipped-zero n)
+
+-- ---- a loop that reads the groups into arrays
+
+-- the first i are read
+abbrev pub Read : List Group → ℕ → List ℕ → List ℕ → List ℕ → List ℕ → Type 0
+Read gs i f p l h = zipped f p l h ≡ take i gs ++ drop i (replicate (limits .groups) zeroGroup)
+
+pub read-none : (gs : List Group) → Read gs 0 (replicate 256 0) (replicate 256 0) (replicate 256 0) (replicate 256 0)
+read-none gs = zipped-zero 256
+
+module _ (gs : List Group) (w : Whole gs) (i : ℕ) (f p l h : List ℕ) (inv : Read gs i f p l h) where
+  pub read-next : i < limits .groups → (d : Group)
+      → Read gs (i + 1) (set f i (getD gs i d .fixed)) (set p i (getD gs i d .possible)) (set l i (getD gs i d .low)) (set h i (getD gs i d .high))
+  read-next k d =
+      let g = getD gs i d in
+      zipped-set f p l h i (g .fixed) (g .possible) (g .low) (g .high)
+      ∙ place-set i (λ x. g) (zipped f p l h) zeroGroup
+      ∙ ap (λ (x : List Group). set x i g) inv
+      ∙ seam-next gs (replicate 256 zeroGroup) i d (omega arith) (omega (arith, length-replicate 256 zeroGroup))
+
+  pub read-all : limits .groups ≤ i → zipped f p l h ≡ gs
+  read-all k = inv ∙ seam-end gs (replicate 256 zeroGroup) i (omega arith) (omega (arith, length-replicate 256 zeroGroup))
+
+-- ---- loops that look at the first s groups
+
+module _ (a b : List Group) (s i : ℕ) (x y : Group) (wa : Whole a) (wb : Whole b) (few : s ≤ limits .groups)
+    (inv : sameTable (take s a) (take s b) ≡ sameTable (drop i (take s a)) (drop i (take s b))) where
+  same-step : i < s → x ≡ getD a i zeroGroup → y ≡ getD b i zeroGroup
+      → sameTable (take s a) (take s b) ≡ (sameGroup x y && sameTable (drop (i + 1) (take s a)) (drop (i + 1) (take s b)))
+  unfolding sameTable
+  same-step h p q =
+      inv
+      ∙ ap₂ (pairwise sameGroup) (drop-next zeroGroup (take s a) i (omega (arith, length-take s a))) (drop-next zeroGroup (take s b) i (omega (arith, length-take s b)))
+      ∙ rw (getD-take s a i zeroGroup h, getD-take s b i zeroGroup h, p, q)
+
+  pub same-goes : i < s → x ≡ getD a i zeroGroup → y ≡ getD b i zeroGroup → sameGroup x y ≡ true
+      → sameTable (take s a) (take s b) ≡ sameTable (drop (i + 1) (take s a)) (drop (i + 1) (take s b))
+  same-goes h p q e = same-step h p q ∙ rw e
+
+  pub same-stops : i < s → x ≡ getD a i zeroGroup → y ≡ getD b i zeroGroup → sameGroup x y ≡ false → false ≡ sameTable (take s a) (take s b)
+  same-stops h p q e = sym (same-step h p q ∙ rw e)
+
+pub same-end : (a b : List Group) (s i : ℕ) → s ≤ i → sameTable (take s a) (take s b) ≡ sameTable (drop i (take s a)) (drop i (take s b))
+    → true ≡ sameTable (take s a) (take s b)
+unfolding sameTable
+same-end a b s i h inv =
+    let p : length (take s a) ≤ i = omega (arith, length-take s a) in
+    let q : length (take s b) ≤ i = omega (arith, length-take s b) in
+    sym (inv ∙ ap₂ (pairwise sameGroup) (drop-of-length-le (take s a) p) (drop-of-length-le (take s b) q))

@@ -6,7 +6,7 @@ use native.Mathlib.Numerals.{add-one}
 use native.Mathlib.Omega.{arith}
 use mathlib.Core.List.{List, [], _∷_, _++_, map}
 use lib.ListN.{length, getD, take, drop, length-map, length-take, List·getD-map, drop-of-length-le}
-use lib.Seq.{slice, slice-cons, drop-cons, take-suc, take-all}
+use lib.Seq.{slice, slice-cons, drop-cons, take-suc, take-all, getD-take}
 use Rattle.model.specs.declared.Literal.{Literal}
 use Rattle.model.specs.declared.Literal.the-variants.{Pos, Neg}
 use Rattle.model.specs.declared.Group.{Group}
@@ -222,11 +222,18 @@ module _ (n : ℕ) (cs : List Constraint) (f p : List ℕ) where
   constraints-left = goes-start (run (map (constraintRule n) cs)) f p
 
   module _ (j : ℕ) (f₁ p₁ : List ℕ) (inv : ConstraintsLeft j f₁ p₁) where
-    pub constraint-done : j < length cs → (d : Constraint) (f₂ p₂ : List ℕ) → Acts (constraintRule n (getD cs j d)) f₁ p₁ f₂ p₂ → ConstraintsLeft (j + 1) f₂ p₂
-    constraint-done h d f₂ p₂ a =
+    constraint-next : j < length cs → (d : Constraint) (f₂ p₂ : List ℕ) → Acts (constraintRule n (getD cs j d)) f₁ p₁ f₂ p₂ → ConstraintsLeft (j + 1) f₂ p₂
+    constraint-next h d f₂ p₂ a =
         goes-next (run (map (constraintRule n) cs)) f p (constraintsFrom n cs j) f₁ p₁ inv (constraintRule n (getD cs j d)) (constraintsFrom n cs (j + 1)) f₂ p₂ a
         (λ t. ap (λ m. run (map (constraintRule n) m) t) (drop-cons cs j d h ∙ ap (λ (k : ℕ). getD cs j d ∷ drop k cs) (sym (add-one j))))
 
     pub no-constraint-left : length cs ≤ j → Acts (run (map (constraintRule n) cs)) f p f₁ p₁
     no-constraint-left h =
         goes-end (run (map (constraintRule n) cs)) f p (constraintsFrom n cs j) f₁ p₁ inv (λ t. ap (λ m. run (map (constraintRule n) m) t) (drop-of-length-le cs h))
+
+pub constraint-done : (n : ℕ) (cs : List Constraint) (c : ℕ) → c ≤ length cs → (f p : List ℕ) (j : ℕ) (f₁ p₁ : List ℕ)
+    → ConstraintsLeft n (take c cs) f p j f₁ p₁ → j < c → (d : Constraint) (f₂ p₂ : List ℕ) → Acts (constraintRule n (getD cs j d)) f₁ p₁ f₂ p₂
+    → ConstraintsLeft n (take c cs) f p (j + 1) f₂ p₂
+constraint-done n cs c k f p j f₁ p₁ inv h d f₂ p₂ a =
+    constraint-next n (take c cs) f p j f₁ p₁ inv (omega (arith, length-take c cs)) d f₂ p₂
+    (subst (λ x. Acts (constraintRule n x) f₁ p₁ f₂ p₂) (sym (getD-take c cs j d h)) a)

@@ -13,8 +13,8 @@ ghost use Rattle.model.specs.Limits.{limits};
 ghost use Rattle.model.specs.Lists.{every, range};
 ghost use Rattle.model.specs.Words.{full, less, size};
 ghost use Rattle.model.specs.Clauses.{ofGroup};
-ghost use Rattle.model.specs.Model.{zeroGroup, constraintInRange, withTable};
-ghost use Rattle.model.specs.Propagate.{groupRule, groupRuleAt, madeTrue, literalRule, clauseRule, constraintRule, run, rules, groupConsistent, consistent, sameGroup, sameTable, refusedPropagation, propagated};
+ghost use Rattle.model.specs.Model.{constraintInRange};
+ghost use Rattle.model.specs.Propagate.{groupRule, groupRuleAt, madeTrue, literalRule, clauseRule, constraintRule, run, rules, groupConsistent, consistent, sameGroup, sameTable, fixpoint, refusedPropagation, propagatedAs, propagated};
 ghost use Rattle.propagate.specs.Flat.{group, zipped, groupsIn, Whole, Acts, AllFalse, Stands, LiteralStands, clauseOf, ClauseStands, line, settled};
 
 use model::Constraint;
@@ -319,15 +319,192 @@ fn passed(t: Table, constraints: [Constraint; Model::CONSTRAINTS], n: u32, s: us
     }
 }
 
-fn group_at(t: Table, i: usize) -> Group
-    requires { ⌜ Whole (groupsIn t) × (i < limits .groups) ⌝ }
-    ensures { λ r. ⌜ r ≡ getD (groupsIn t) i zeroGroup ⌝ }
+fn group_consistent(g: Group) -> bool
+    ensures { λ r. ⌜ r ≡ groupConsistent g ⌝ }
 {
-    Group {
-        fixed: t.fixed[i],
-        possible: t.possible[i],
-        low: t.low[i],
-        high: t.high[i],
+    if g.fixed & g.possible != g.fixed {
+        return false;
+    }
+    g.low <= g.high
+}
+
+// False is refusal 21: a look at groups 1 to s.
+fn table_consistent(t: Table, s: usize) -> bool
+    requires { ⌜ Whole (groupsIn t) × (s ≤ limits .groups) ⌝ }
+    ensures { λ r. ⌜ r ≡ consistent (take s (groupsIn t)) ⌝ }
+{
+    let mut i: usize = 0;
+    while i < s {
+        let g = Group {
+            fixed: t.fixed[i],
+            possible: t.possible[i],
+            low: t.low[i],
+            high: t.high[i],
+        };
+        if !group_consistent(g) {
+            return false;
+        }
+        i += 1;
+    }
+    true
+}
+
+fn same_group(a: Group, b: Group) -> bool
+    ensures { λ r. ⌜ r ≡ sameGroup a b ⌝ }
+{
+    if a.fixed != b.fixed {
+        return false;
+    }
+    if a.possible != b.possible {
+        return false;
+    }
+    if a.low != b.low {
+        return false;
+    }
+    a.high == b.high
+}
+
+// Sets and limits of groups 1 to s are alike.
+fn same_table(a: Table, b: Table, s: usize) -> bool
+    requires { ⌜ Whole (groupsIn a) × (Whole (groupsIn b) × (s ≤ limits .groups)) ⌝ }
+    ensures { λ r. ⌜ r ≡ sameTable (take s (groupsIn a)) (take s (groupsIn b)) ⌝ }
+{
+    let mut i: usize = 0;
+    while i < s {
+        let g = Group {
+            fixed: a.fixed[i],
+            possible: a.possible[i],
+            low: a.low[i],
+            high: a.high[i],
+        };
+        let h = Group {
+            fixed: b.fixed[i],
+            possible: b.possible[i],
+            low: b.low[i],
+            high: b.high[i],
+        };
+        if !same_group(g, h) {
+            return false;
+        }
+        i += 1;
+    }
+    true
+}
+
+// ---- a model's groups as arrays, and back
+
+fn unpacked(groups: [Group; Model::GROUPS]) -> Table
+    ensures { λ r. ⌜ Whole groups × (groupsIn r ≡ groups) ⌝ }
+{
+    let mut fixed = [0u64; Model::GROUPS];
+    let mut possible = [0u64; Model::GROUPS];
+    let mut low = [0u32; Model::GROUPS];
+    let mut high = [0u32; Model::GROUPS];
+    let mut i: usize = 0;
+    while i < Model::GROUPS {
+        let g = groups[i];
+        fixed[i] = g.fixed;
+        possible[i] = g.possible;
+        low[i] = g.low;
+        high[i] = g.high;
+        i += 1;
+    }
+    Table {
+        fixed,
+        possible,
+        low,
+        high,
     }
 }
 
+// Groups 1 to s of the table; entries past s stay.
+fn packed(groups: [Group; Model::GROUPS], t: Table, s: usize) -> [Group; Model::GROUPS]
+    requires { ⌜ Whole (groupsIn t) × (s ≤ limits .groups) ⌝ }
+    ensures { λ r. ⌜ r ≡ take s (groupsIn t) ++ drop s groups ⌝ }
+{
+    let mut r = groups;
+    let mut i: usize = 0;
+    while i < s {
+        r[i] = Group {
+            fixed: t.fixed[i],
+            possible: t.possible[i],
+            low: t.low[i],
+            high: t.high[i],
+        };
+        i += 1;
+    }
+    r
+}
+
+// ---- passes
+
+fn refused(refusal: u32, m: Model) -> Propagated
+    ensures { λ r. ⌜ r ≡ refusedPropagation refusal m ⌝ }
+{
+    Propagated {
+        refusal,
+        passes: 0,
+        model: m,
+    }
+}
+
+fn done(passes: u32, m: Model, t: Table) -> Propagated
+    requires { ⌜ Whole (groupsIn t) × (m .s ≤ limits .groups) ⌝ }
+    ensures { λ r. ⌜ r ≡ propagatedAs m (fixpoint passes (take (m .s) (groupsIn t))) ⌝ }
+{
+    let groups = packed(m.groups, t, m.s as usize);
+    let mut r = m;
+    r.groups = groups;
+    Propagated {
+        refusal: 0,
+        passes,
+        model: r,
+    }
+}
+
+// Passes until one changes nothing; refusals 20 and 21.
+pub fn propagate(m: Model) -> Propagated
+    ensures { λ r. ⌜ r ≡ propagated m ⌝ }
+    ensures { λ r. ⌜ r .passes ≤ 2 * m .s * m .n + 1 ⌝ }
+{
+    if !m.in_range() {
+        return refused(20, m);
+    }
+    let s = m.s as usize;
+    let c = m.c as usize;
+    let constraints = m.constraints;
+    let fuel = 2 * m.s * m.n + 1;
+    let groups = m.groups;
+    let mut t = unpacked(groups);
+    let mut k: u32 = 0;
+    while k < fuel {
+        let u = passed(t, constraints, m.n, s, c);
+        k += 1;
+        if !table_consistent(u, s) {
+            return refused(21, m);
+        }
+        if same_table(u, t, s) {
+            return done(k, m, u);
+        }
+        t = u;
+    }
+    refused(21, m)
+}
+
+// Whether a pass would change nothing: false for a model out of range too, so that the equation holds of every model.
+pub fn is_fixpoint(m: Model) -> bool
+    ensures { λ r. ⌜ r ≡ settled m ⌝ }
+{
+    if !m.in_range() {
+        return false;
+    }
+    let s = m.s as usize;
+    let constraints = m.constraints;
+    let groups = m.groups;
+    let t = unpacked(groups);
+    let u = passed(t, constraints, m.n, s, m.c as usize);
+    if !table_consistent(u, s) {
+        return false;
+    }
+    same_table(u, t, s)
+}
