@@ -126,7 +126,7 @@ literalsFrom n c i = run (clauseRules n (take i c) (drop i c))
 pub literals-next : (n : ℕ) (ids : List ℕ) (c : List Literal) (i : ℕ) → i < length c → (t : List Group)
     → literalsFrom n (map (ofGroup ids) c) i t
     ≡ literalsFrom n (map (ofGroup ids) c) (i + 1)
-      (literalRule n (ofGroup ids (getD c i (Pos 0))) (take i (map (ofGroup ids) c) ++ drop (i + 1) (map (ofGroup ids) c)) t)
+    (literalRule n (ofGroup ids (getD c i (Pos 0))) (take i (map (ofGroup ids) c) ++ drop (i + 1) (map (ofGroup ids) c)) t)
 unfolding clauseRules
 literals-next n ids c i h t =
     ap (λ m. run (clauseRules n (take i ls) m) t) (drop-cons ls i d k)

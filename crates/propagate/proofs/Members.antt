@@ -68,8 +68,10 @@ module _ (code k : ℕ) (ids : List ℕ) (size : length ids ≡ limits .members)
       let t = subst (λ (x : ℕ). T (between 1 (limits .groups) x)) (getD-take (memberCount code k) ids m 0 h) (every-getD (between 1 (limits .groups)) gs 0 m groups-ok i) in
       let x = getD ids m 0 in (
         omega arith,
-        (leb→le 1 x (and-left (leb 1 x) (leb x (limits .groups)) t),
-        leb→le x (limits .groups) (and-right (leb 1 x) (leb x (limits .groups)) t)),
+        (
+          leb→le 1 x (and-left (leb 1 x) (leb x (limits .groups)) t),
+          leb→le x (limits .groups) (and-right (leb 1 x) (leb x (limits .groups)) t),
+        ),
       )
 
   literal-here : (l : Literal) → T (memberBelow (memberCount code k) l) → LiteralStands ids l

@@ -1,7 +1,7 @@
 -- Laws of a pass over the whole arrays and over the groups of a model, and of the passes made. Assumes nothing.
 use mathlib.Core.Path.{_≡_, refl, sym, ap, ap₂, _∙_, subst}
 use Prim.Native.Nat.{ℕ, zero, suc, _+_, _-_, _*_, _≤_, _<_}
-use native.Mathlib.Nat.{le-refl, sub-zero}
+use native.Mathlib.Nat.{sub-zero, mul-le-mul-right}
 use native.Mathlib.Numerals.{add-one}
 use native.Mathlib.Omega.{arith}
 use native.Mathlib.Decide.{decLt}
@@ -20,11 +20,11 @@ use Rattle.model.specs.Lists.{every, range, onPlace, between, distinct}
 use Rattle.model.specs.Limits.{limits}
 use Rattle.model.specs.Words.{less, full}
 use Rattle.model.specs.Clauses.{memberCount, memberClauses, ofGroup, groupsOf, clausesOf}
-use Rattle.model.specs.Model.{zeroGroup, groupAt, tableOf, constraintsOf, codeInRange, constraintInRange, inRange}
-use Rattle.model.specs.Propagate.{groupRule, groupRuleAt, falseIn, allFalse, fixedWith, possibleWithout, madeTrue, literalRule, run, clauseRules, clauseRule, constraintRule, rules, pass, consistent, sameTable, Outcome, contradiction, fixpoint, afterPass, iterate, outcome, refusedPropagation, propagatedAs, propagated}
-use Rattle.model.proofs.Lists.{T-true, All, all-append, all-map, every-getD, and-left, and-right, and-both, place-append, place-length}
+use Rattle.model.specs.Model.{zeroGroup, groupAt, withTable, tableOf, constraintsOf, codeInRange, constraintInRange, inRange}
+use Rattle.model.specs.Propagate.{groupRule, groupRuleAt, falseIn, allFalse, fixedWith, possibleWithout, madeTrue, literalRule, run, clauseRules, clauseRule, constraintRule, rules, pass, consistent, sameTable, Outcome, contradiction, fixpoint, afterPass, iterate, outcome, refusedPropagation, propagatedAs, propagated, isFixpoint}
+use Rattle.model.proofs.Lists.{T-true, true-T, All, all-append, all-map, every-getD, and-left, and-right, and-both, place-append, place-length}
 use Rattle.propagation_laws.proofs.Ranges.{constraint-code, ModelRange, model-range}
-use Rattle.propagate.specs.Flat.{zipped, Whole, Acts}
+use Rattle.propagate.specs.Flat.{zipped, Whole, Acts, settled}
 use Rattle.propagate.proofs.Members.{memberBelow, members-below}
 
 -- ---- the rules of a pass, on all places
@@ -99,9 +99,10 @@ module _ (s : ℕ) where
   local-literals : (n : ℕ) (before after : List Literal) → All Inside before → All Inside after → All Local (clauseRules n before after)
   unfolding clauseRules
   local-literals n before [] h k = tt
-  local-literals n before (l ∷ after) h k =
-      (local-literal n l (before ++ after) (k .0) (all-append Inside before after h (k .1)),
-      local-literals n (before ++ (l ∷ [])) after (all-append Inside before (l ∷ []) h (k .0, tt)) (k .1))
+  local-literals n before (l ∷ after) h k = (
+    local-literal n l (before ++ after) (k .0) (all-append Inside before after h (k .1)),
+    local-literals n (before ++ (l ∷ [])) after (all-append Inside before (l ∷ []) h (k .0, tt)) (k .1),
+  )
 
   local-clause : (n : ℕ) (c : List Literal) → All Inside c → Local (clauseRule n c)
   unfolding clauseRule
@@ -227,12 +228,12 @@ module _ (m : Model) (t : T (inRange m)) where
 
       one : (c : Constraint) → T (constraintInRange (m .s) c) → T (constraintInRange (limits .groups) c)
       one c u = unfold constraintInRange in (
-        let k = codeInRange (c .code) (c .count) in
-        let a = every (between 1 (m .s)) (groupsOf c) in
-        let d = distinct (groupsOf c) in
-        let ka = and-left (k && a) d u in
-        and-both (k && every (between 1 (limits .groups)) (groupsOf c)) d
-        (and-both k (every (between 1 (limits .groups)) (groupsOf c)) (and-left k a ka) (wide (groupsOf c) (and-right k a ka))) (and-right (k && a) d u))
+          let k = codeInRange (c .code) (c .count) in
+          let a = every (between 1 (m .s)) (groupsOf c) in
+          let d = distinct (groupsOf c) in
+          let ka = and-left (k && a) d u in
+          and-both (k && every (between 1 (limits .groups)) (groupsOf c)) d
+          (and-both k (every (between 1 (limits .groups)) (groupsOf c)) (and-left k a ka) (wide (groupsOf c) (and-right k a ka))) (and-right (k && a) d u))
 
       go : (cs : List Constraint) → T (every (constraintInRange (m .s)) cs) → T (every (constraintInRange (limits .groups)) cs)
       go [] u = tt
@@ -313,3 +314,86 @@ passes-few m = go (inRange m) (outcome m) (made-few consistent sameTable (pass m
         → cond b (propagatedAs m o) (refusedPropagation 20 m) .passes ≤ 2 * m .s * m .n + 1
     go true o h = by-outcome o h
     go false o h = omega arith
+
+pub answered : (k : ℕ) (m : Model) (t gs : List Group) → gs ≡ t ++ drop (m .s) (m .groups)
+    → _≡_ {A = Propagated} (record {
+      refusal = 0;
+      passes = k;
+      model = record { n = m .n; s = m .s; c = m .c; groups = gs; constraints = m .constraints };
+    }) (propagatedAs m (fixpoint k t))
+unfolding withTable
+answered k m t gs e = rw e
+
+-- ---- one pass, as the code makes it: a are the groups of the model in the arrays, b the groups after it
+
+module _ (m : Model) (r : Bool) (e : r ≡ inRange m) where
+  pub out-of-range : r ≡ false → inRange m ≡ false
+  out-of-range f = sym e ∙ f
+
+  pub in-range : r ≡ true → T (inRange m)
+  in-range f = true-T (inRange m) (sym e ∙ f)
+
+pub whole-read : (a gs : List Group) → Whole gs → a ≡ gs → Whole a
+whole-read a gs w e = ap length e ∙ w
+
+pub settled-out : (m : Model) → inRange m ≡ false → false ≡ settled m
+settled-out m e = rw e
+
+module _ (m : Model) (t : T (inRange m)) (a b : List Group) (w : Whole a) (e : a ≡ m .groups)
+    (p : b ≡ run (rules (m .n) (m .s) (take (m .c) (m .constraints))) a) (r : Bool) (c : r ≡ consistent (take (m .s) b)) where
+  now-is : take (m .s) a ≡ tableOf m
+  unfolding tableOf
+  now-is = ap (take (m .s)) e
+
+  next-is : take (m .s) b ≡ pass m (tableOf m)
+  next-is = pass-first m t a b w p ∙ ap (pass m) now-is
+
+  settled-is : settled m ≡ (consistent (take (m .s) b) && sameTable (take (m .s) b) (take (m .s) a))
+  unfolding isFixpoint
+  settled-is = rw (T-true (inRange m) t) (sym (ap₂ (λ x y. consistent x && sameTable x y) next-is now-is))
+
+  pub settled-contradicts : r ≡ false → false ≡ settled m
+  settled-contradicts f = sym (settled-is ∙ rw (sym c ∙ f))
+
+  pub settled-same : r ≡ true → (q : Bool) → q ≡ sameTable (take (m .s) b) (take (m .s) a) → q ≡ settled m
+  settled-same f q d = d ∙ sym (settled-is ∙ rw (sym c ∙ f))
+
+-- ---- the loop of passes: both parts of the contract
+
+abbrev Contract : Model → Propagated → Type 0
+Contract m o = (o ≡ propagated m) × (o .passes ≤ 2 * m .s * m .n + 1)
+
+contract : (m : Model) (o : Propagated) → o ≡ propagated m → Contract m o
+contract m o e = (e, subst (λ (x : Propagated). x .passes ≤ 2 * m .s * m .n + 1) (sym e) (passes-few m))
+
+pub refused-20 : (m : Model) → inRange m ≡ false → (o : Propagated) → o ≡ refusedPropagation 20 m → Contract m o
+refused-20 m f o e = contract m o (e ∙ sym (propagated-out m f))
+
+pub first-left : (m : Model) (a : List Group) → a ≡ m .groups → outcome m ≡ Left m 0 (take (m .s) a)
+first-left m a e = left-start m ∙ ap (Left m 0) (unfold tableOf in sym (ap (take (m .s)) e))
+
+pub fuel-fits : (m : Model) → T (inRange m) → 2 * m .s * m .n ≤ 16384
+fuel-fits m t =
+    let a : 2 * m .s ≤ 512 = omega (arith, s-few m t) in
+    let b : 2 * m .s * m .n ≤ 512 * m .n = mul-le-mul-right (m .n) a in
+    omega (arith, n-few m t)
+
+module _ (m : Model) (t : T (inRange m)) (k : ℕ) (a : List Group) (inv : outcome m ≡ Left m k (take (m .s) a)) where
+  ended : (x : Outcome (List Group)) → Left m k (take (m .s) a) ≡ x → (o : Propagated) → o ≡ propagatedAs m x → Contract m o
+  ended x q o e = contract m o (e ∙ sym (propagated-in m t ∙ ap (propagatedAs m) (inv ∙ q)))
+
+  pub refused-at-end : 2 * m .s * m .n + 1 ≤ k → (o : Propagated) → o ≡ refusedPropagation 21 m → Contract m o
+  refused-at-end h o e = ended contradiction (left-none m k (take (m .s) a) h) o e
+
+  module _ (b : List Group) (w : Whole a) (p : b ≡ run (rules (m .n) (m .s) (take (m .c) (m .constraints))) a) (some : k < 2 * m .s * m .n + 1)
+      (r : Bool) (c : r ≡ consistent (take (m .s) b)) where
+    pub refused-21 : r ≡ false → (o : Propagated) → o ≡ refusedPropagation 21 m → Contract m o
+    refused-21 f o e = ended contradiction (left-refused m k (take (m .s) a) (take (m .s) b) (pass-first m t a b w p) some (sym c ∙ f)) o e
+
+    module _ (f : r ≡ true) (q : Bool) (d : q ≡ sameTable (take (m .s) b) (take (m .s) a)) where
+      pub at-fixpoint : q ≡ true → (o : Propagated) → o ≡ propagatedAs m (fixpoint (k + 1) (take (m .s) b)) → Contract m o
+      at-fixpoint g o e =
+          ended (fixpoint (k + 1) (take (m .s) b)) (left-done m k (take (m .s) a) (take (m .s) b) (pass-first m t a b w p) some (sym c ∙ f) (sym d ∙ g)) o e
+
+      pub pass-more : q ≡ false → outcome m ≡ Left m (k + 1) (take (m .s) b)
+      pass-more g = inv ∙ left-next m k (take (m .s) a) (take (m .s) b) (pass-first m t a b w p) some (sym c ∙ f) (sym d ∙ g)

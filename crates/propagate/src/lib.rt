@@ -16,7 +16,6 @@ ghost use Rattle.model.specs.Clauses.{ofGroup};
 ghost use Rattle.model.specs.Model.{constraintInRange};
 ghost use Rattle.model.specs.Propagate.{groupRule, groupRuleAt, madeTrue, literalRule, clauseRule, constraintRule, run, rules, groupConsistent, consistent, sameGroup, sameTable, fixpoint, refusedPropagation, propagatedAs, propagated};
 ghost use Rattle.propagate.specs.Flat.{group, zipped, groupsIn, Whole, Acts, AllFalse, Stands, LiteralStands, clauseOf, ClauseStands, line, settled};
-
 use model::Constraint;
 use model::Group;
 use model::Literal;
@@ -301,7 +300,13 @@ fn constraint_rules(
 // ---- a pass
 
 // The group rule on groups 1 to s, then each constraint in order.
-fn passed(t: Table, constraints: [Constraint; Model::CONSTRAINTS], n: u32, s: usize, c: usize) -> Table
+fn passed(
+    t: Table,
+    constraints: [Constraint; Model::CONSTRAINTS],
+    n: u32,
+    s: usize,
+    c: usize,
+) -> Table
     requires { ⌜ Whole (groupsIn t) × ((s ≤ limits .groups) × ((c ≤ limits .constraints) × (T (every (constraintInRange (limits .groups)) (take c constraints)) × (n ≤ limits .entrants)))) ⌝ }
     ensures { λ r. ⌜ Whole (groupsIn r) × (groupsIn r ≡ run (rules n s (take c constraints)) (groupsIn t)) ⌝ }
 {
@@ -452,9 +457,10 @@ fn done(passes: u32, m: Model, t: Table) -> Propagated
     requires { ⌜ Whole (groupsIn t) × (m .s ≤ limits .groups) ⌝ }
     ensures { λ r. ⌜ r ≡ propagatedAs m (fixpoint passes (take (m .s) (groupsIn t))) ⌝ }
 {
-    let groups = packed(m.groups, t, m.s as usize);
+    let groups = m.groups;
+    let written = packed(groups, t, m.s as usize);
     let mut r = m;
-    r.groups = groups;
+    r.groups = written;
     Propagated {
         refusal: 0,
         passes,
