@@ -1,14 +1,12 @@
 -- Laws of the four arrays: what is read at a place, what a store makes of the groups, and loops of rules. Assumes nothing.
 use mathlib.Core.Path.{_≡_, refl, sym, ap, ap₂, _∙_, subst}
-use Prim.Native.Nat.{ℕ, zero, suc, _+_, _-_, _*_, _^_, _≤_, _<_}
+use Prim.Native.Nat.{ℕ, zero, suc, _+_, _-_, _≤_, _<_}
 use native.Mathlib.Omega.{arith}
-use native.Mathlib.Decide.{decLt}
-use native.Mathlib.Numerals.{add-one}
-use mathlib.Core.Bool.{Bool, true, false, _&&_}
-use mathlib.Core.List.{List, [], _∷_, _++_, append-nil}
+use mathlib.Core.Bool.{true, false, _&&_}
+use mathlib.Core.List.{List, [], _∷_, _++_}
 use lib.Bits.{bitAnd, bitOr}
 use lib.ListN.{length, getD, set, take, drop, replicate, length-take, length-replicate, drop-of-length-le}
-use lib.Seq.{set-getD, set-at, append-snoc, drop-cons, take-suc, take-all, length-take-le, getD-take}
+use lib.Seq.{set-getD, getD-take}
 use Rattle.model.specs.declared.Literal.{Literal}
 use Rattle.model.specs.declared.Literal.the-variants.{Pos, Neg}
 use Rattle.model.specs.declared.Group.{Group}
@@ -17,18 +15,12 @@ use Rattle.model.specs.Limits.{limits}
 use Rattle.model.specs.Words.{less}
 use Rattle.model.specs.Clauses.{ofGroup}
 use Rattle.model.specs.Model.{zeroGroup, groupAt}
-use Rattle.model.specs.Propagate.{groupRule, groupRuleAt, falseIn, allFalse, fixedWith, possibleWithout, madeTrue, sameGroup, sameTable}
-use Rattle.model.proofs.Lists.{place-length, place-set}
+use Rattle.model.specs.Propagate.{falseIn, allFalse, fixedWith, possibleWithout, madeTrue, sameGroup, sameTable}
+use Rattle.model.proofs.Lists.{place-length, place-set, place-agree, seam-next, seam-end}
 use Rattle.model.proofs.Loops.{drop-next}
 use Rattle.propagate.specs.Flat.{group, zipped, Whole, Acts, AllFalse, Stands, LiteralStands}
 
 -- ---- a place
-
--- two changes that agree on what stands at the place
-pub place-agree : {A : Type 0} (i : ℕ) (r q : A → A) (t : List A) (d : A) → (i < length t → r (getD t i d) ≡ q (getD t i d)) → onPlace i r t ≡ onPlace i q t
-place-agree i r q [] d h = refl
-place-agree zero r q (x ∷ t) d h = ap {B = List _} (λ y. y ∷ t) (h (omega arith))
-place-agree (suc i) r q (x ∷ t) d h = ap {B = List _} (λ l. x ∷ l) (place-agree i r q t d (λ l. h (omega arith)))
 
 -- what is read
 pub zipped-at : (f p l h : List ℕ) (i : ℕ) → i < length (zipped f p l h)
@@ -140,27 +132,12 @@ module _ (ids : List ℕ) (lit : Literal) (m : ℕ) where
     unfolding ofGroup
     member-negative-true q r e = rw (q, e) (negative-true f p (getD ids m 0) i w (at .0) (at .1))
 
--- ---- a list that becomes another place by place
-
-pub seam-next : {A : Type 0} (a b : List A) (i : ℕ) (d : A) → i < length a → i < length b
-    → set (take i a ++ drop i b) i (getD a i d) ≡ take (i + 1) a ++ drop (i + 1) b
-seam-next a b i d h k =
-    ap (λ l. set (take i a ++ l) i (getD a i d)) (drop-cons b i d k)
-    ∙ set-at (take i a) (getD b i d) (drop (suc i) b) (getD a i d) i (length-take-le i a (omega arith))
-    ∙ sym (append-snoc (take i a) (getD a i d) (drop (suc i) b))
-    ∙ sym (ap (λ l. l ++ drop (suc i) b) (take-suc a i d h))
-    ∙ sym (ap (λ (n : ℕ). take n a ++ drop n b) (add-one i))
-
--- all of it
-pub seam-end : {A : Type 0} (a b : List A) (i : ℕ) → length a ≤ i → length b ≤ i → take i a ++ drop i b ≡ a
-seam-end a b i h k = ap₂ {C = List _} (λ x y. x ++ y) (take-all i a h) (drop-of-length-le b k) ∙ append-nil a
+-- ---- a loop that reads the groups into arrays
 
 zipped-zero : (n : ℕ) → zipped (replicate n 0) (replicate n 0) (replicate n 0) (replicate n 0) ≡ replicate n zeroGroup
 unfolding zipped zeroGroup
 zipped-zero zero = refl
 zipped-zero (suc n) = ap {B = List Group} (λ l. group 0 0 0 0 ∷ l) (zipped-zero n)
-
--- ---- a loop that reads the groups into arrays
 
 -- the first i are read
 abbrev pub Read : List Group → ℕ → List ℕ → List ℕ → List ℕ → List ℕ → Type 0

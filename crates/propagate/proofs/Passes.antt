@@ -18,7 +18,7 @@ use Rattle.model.specs.declared.Model.{Model}
 use Rattle.model.specs.declared.Propagated.{Propagated}
 use Rattle.model.specs.Lists.{every, range, onPlace, between, distinct}
 use Rattle.model.specs.Limits.{limits}
-use Rattle.model.specs.Words.{less, full}
+use Rattle.model.specs.Words.{full}
 use Rattle.model.specs.Clauses.{memberCount, memberClauses, ofGroup, groupsOf, clausesOf}
 use Rattle.model.specs.Model.{zeroGroup, groupAt, withTable, tableOf, constraintsOf, codeInRange, constraintInRange, inRange}
 use Rattle.model.specs.Propagate.{groupRule, groupRuleAt, falseIn, allFalse, fixedWith, possibleWithout, madeTrue, literalRule, run, clauseRules, clauseRule, constraintRule, rules, pass, consistent, sameTable, Outcome, contradiction, fixpoint, afterPass, iterate, outcome, refusedPropagation, propagatedAs, propagated, isFixpoint}

@@ -1,8 +1,8 @@
 -- The table of groups as four arrays, which is how the code keeps it, and what a rule does to them.
-use Prim.Native.Nat.{ℕ, _+_, _≤_, _<_}
+use Prim.Native.Nat.{ℕ, _≤_, _<_}
 use mathlib.Core.Path.{_≡_}
 use mathlib.Core.Bool.{Bool, _&&_}
-use mathlib.Core.List.{List, [], _∷_, map}
+use mathlib.Core.List.{List, [], _∷_}
 use lib.ListN.{length, getD}
 use Rattle.model.specs.declared.Literal.{Literal}
 use Rattle.model.specs.declared.Literal.the-variants.{Pos, Neg}
@@ -10,7 +10,7 @@ use Rattle.model.specs.declared.Group.{Group}
 use Rattle.model.specs.declared.Constraint.{Constraint}
 use Rattle.model.specs.declared.Model.{Model}
 use Rattle.model.specs.Limits.{limits}
-use Rattle.model.specs.Clauses.{memberClauses, ofGroup}
+use Rattle.model.specs.Clauses.{memberClauses}
 use Rattle.model.specs.Model.{inRange}
 use Rattle.model.specs.Propagate.{isFixpoint, allFalse}
 use Rattle.propagate.specs.declared.Table.{Table}

@@ -15,7 +15,7 @@ ghost use Rattle.model.specs.Words.{full, less, size};
 ghost use Rattle.model.specs.Clauses.{ofGroup};
 ghost use Rattle.model.specs.Model.{constraintInRange};
 ghost use Rattle.model.specs.Propagate.{groupRule, groupRuleAt, madeTrue, literalRule, clauseRule, constraintRule, run, rules, groupConsistent, consistent, sameGroup, sameTable, fixpoint, refusedPropagation, propagatedAs, propagated};
-ghost use Rattle.propagate.specs.Flat.{group, zipped, groupsIn, Whole, Acts, AllFalse, Stands, LiteralStands, clauseOf, ClauseStands, line, settled};
+ghost use Rattle.propagate.specs.Flat.{zipped, groupsIn, Whole, Acts, AllFalse, Stands, LiteralStands, clauseOf, ClauseStands, line, settled};
 use model::Constraint;
 use model::Group;
 use model::Literal;
@@ -23,7 +23,7 @@ use model::Model;
 use model::Propagated;
 
 // The table of groups: group g stands at place g - 1 of each array.
-pub struct Table {
+struct Table {
     fixed: [u64; Model::GROUPS],
     possible: [u64; Model::GROUPS],
     low: [u32; Model::GROUPS],

@@ -1,5 +1,5 @@
 -- `clause_rule` is the rule of the literals of a clause in order. Invariant: those from i on remain. Assumes nothing.
-use Prim.Native.Nat.{_≤_, _+_, _-_}
+use Prim.Native.Nat.{_≤_, _-_}
 use Rattle.propagate.specs.Flat.{clauseOf}
 use Rattle.propagate.proofs.Loops.{LiteralsLeft, literals-left, literal-done, no-literal-left}
 use native.Mathlib.Omega.{arith}

@@ -1,5 +1,5 @@
 -- `constraint_rule` is the rule of the clauses of a constraint in order. Invariant: those from j on remain. Assumes nothing.
-use Prim.Native.Nat.{_≤_, _+_, _-_}
+use Prim.Native.Nat.{_≤_, _-_}
 use Rattle.propagate.specs.Flat.{line}
 use Rattle.propagate.proofs.Loops.{ClausesLeft, clauses-left, clause-done, no-clause-left}
 use Rattle.propagate.proofs.Members.{clause-stands}

@@ -1,6 +1,6 @@
 -- `constraint_rules` is the rule of the constraints in order. Invariant: those from j on remain. Assumes nothing.
-use Prim.Native.Nat.{_≤_, _+_, _-_}
-use lib.ListN.{length, getD, take, length-take}
+use Prim.Native.Nat.{_≤_, _-_}
+use lib.ListN.{take, length-take}
 use Rattle.model.specs.Limits.{limits}
 use Rattle.propagate.proofs.Loops.{ConstraintsLeft, constraints-left, constraint-done, no-constraint-left}
 use Rattle.propagate.proofs.Members.{constraint-at}

@@ -1,6 +1,5 @@
 -- `filled` is the last step of the group rule. Assumes nothing.
-use Prim.Native.Nat.{ℕ}
-use mathlib.Core.Path.{_∙_, sym, ap}
+use mathlib.Core.Path.{_∙_, sym}
 use Rattle.model.proofs.Words.{size-ones}
 use borrow.Author.Tests.{eq-eqb, ne-eqb}
 use Rattle.propagate.proofs.filled.Statement.{statement}

@@ -1,5 +1,4 @@
 -- `group_consistent` is the test of one group. Assumes nothing.
-use mathlib.Core.Bool.{_&&_}
 use Rattle.model.specs.Words.{inside}
 use Rattle.model.specs.Propagate.{groupConsistent}
 use borrow.Author.Tests.{eq-eqb, ne-eqb}

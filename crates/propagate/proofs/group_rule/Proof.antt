@@ -1,6 +1,6 @@
 -- `group_rule` is the group rule. Assumes nothing.
 use Prim.Native.Nat.{ℕ, min, max}
-use mathlib.Core.Path.{_≡_, refl, _∙_, sym, ap, ap₂}
+use mathlib.Core.Path.{_≡_, _∙_, sym, ap}
 use mathlib.Core.Bool.{cond}
 use lib.Dec.{eqb}
 use lib.Bits.{bitAnd, bitOr}

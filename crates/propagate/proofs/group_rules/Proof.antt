@@ -1,6 +1,6 @@
 -- `group_rules` applies the group rule to groups 1 to s. Invariant: groups i + 1 to s remain. Assumes nothing.
 use Prim.Native.Nat.{_≤_, _+_, _-_}
-use mathlib.Core.Path.{_≡_, refl, _∙_, sym, ap}
+use mathlib.Core.Path.{_≡_, _∙_, sym}
 use mathlib.Core.List.{map}
 use Rattle.model.specs.Lists.{range}
 use Rattle.model.specs.Propagate.{groupRuleAt, run}

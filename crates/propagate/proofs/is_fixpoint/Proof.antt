@@ -1,6 +1,4 @@
 -- `is_fixpoint` makes one pass and compares. Assumes nothing.
-use mathlib.Core.Path.{_≡_}
-use Rattle.propagate.specs.Flat.{groupsIn}
 use Rattle.propagate.proofs.Passes.{s-few, n-few, c-few, lines-stand, out-of-range, in-range, whole-read, settled-out, settled-contradicts, settled-same}
 use borrow.Author.Tests.{not-true, not-false}
 use borrow.Author.Needs.{needs}

@@ -1,6 +1,4 @@
 -- `literal_rule` is the rule of one literal. Assumes nothing.
-use Prim.Native.Nat.{_+_}
-use mathlib.Core.Path.{_≡_, refl}
 use Rattle.propagate.specs.Flat.{clauseOf}
 use Rattle.propagate.proofs.Loops.{literal-stands, literal-made}
 use native.Mathlib.Omega.{arith}

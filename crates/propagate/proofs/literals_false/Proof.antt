@@ -1,6 +1,6 @@
 -- `literals_false` goes through literals a to b of a clause. Invariant: those from i on remain. Assumes nothing.
-use Prim.Native.Nat.{_≤_, _+_, _-_}
-use mathlib.Core.Path.{_≡_, refl}
+use Prim.Native.Nat.{_-_}
+use mathlib.Core.Path.{refl}
 use mathlib.Core.List.{map}
 use lib.Seq.{slice}
 use Rattle.model.specs.Clauses.{ofGroup}

@@ -2,11 +2,12 @@
 use Prim.Native.Nat.{ℕ, _≤_, _-_}
 use mathlib.Core.Path.{_≡_, refl, _∙_, sym, ap, ap₂}
 use mathlib.Core.List.{List, _++_}
-use lib.ListN.{drop, take, length, getD, set}
+use lib.ListN.{drop, take, set}
 use Rattle.model.specs.declared.Group.{Group}
 use Rattle.model.specs.Model.{zeroGroup}
 use Rattle.propagate.specs.Flat.{groupsIn}
-use Rattle.propagate.proofs.Arrays.{zipped-at, seam-next}
+use Rattle.model.proofs.Lists.{seam-next}
+use Rattle.propagate.proofs.Arrays.{zipped-at}
 use native.Mathlib.Omega.{arith}
 use Rattle.propagate.proofs.packed.Statement.{statement}
 use Rattle.propagate.proofs.packed.Tie as tie

@@ -1,5 +1,5 @@
 -- `propagate` makes passes until one changes nothing. Invariant: k passes are made, and the outcome is that of the passes left. Assumes nothing.
-use Prim.Native.Nat.{_≤_, _+_, _-_, _*_}
+use Prim.Native.Nat.{_-_}
 use mathlib.Core.Path.{_≡_}
 use lib.ListN.{take}
 use Rattle.model.specs.Propagate.{outcome}
@@ -63,7 +63,7 @@ add-k : tie.Need-add-k Inv-loop μ-loop
 add-k c = omega (arith, fuel-fits ((c .before .before .before .before .before .before .before .before .before .before .before .before .args .m)) (in-range ((c .before .before .before .before .before .before .before .before .before .before .before .before .args .m)) _ ((c .before .before .before .before .before .before .before .before .before .before .before .in-range .ensures)) (not-false _ ((c .before .before .before .before .before .before .before .before .before .before .if1 .left)))))
 
 table-consistent-requires : tie.Need-table-consistent-requires Inv-loop μ-loop
-table-consistent-requires c κs = ((c .passed .ensures .0), s-few ((c .before .before .before .before .before .before .before .before .before .before .before .before .args .m)) (in-range ((c .before .before .before .before .before .before .before .before .before .before .before .before .args .m)) _ ((c .before .before .before .before .before .before .before .before .before .before .before .in-range .ensures)) (not-false _ ((c .before .before .before .before .before .before .before .before .before .before .if1 .left)))))
+table-consistent-requires c κs = (omega (arith, c .passed .ensures .0, c .before .before .loop .inv .0), s-few ((c .before .before .before .before .before .before .before .before .before .before .before .before .args .m)) (in-range ((c .before .before .before .before .before .before .before .before .before .before .before .before .args .m)) _ ((c .before .before .before .before .before .before .before .before .before .before .before .in-range .ensures)) (not-false _ ((c .before .before .before .before .before .before .before .before .before .before .if1 .left)))))
 
 refused-requires-2 : tie.Need-refused-requires-2 Inv-loop μ-loop
 refused-requires-2 c κs = search needs

@@ -1,6 +1,6 @@
 -- `same_group` compares sets and limits. Assumes nothing.
 use mathlib.Core.Path.{_≡_}
-use mathlib.Core.Bool.{Bool, true, false, _&&_}
+use mathlib.Core.Bool.{Bool, true, _&&_}
 use Rattle.model.specs.Propagate.{sameGroup}
 use borrow.Author.Tests.{eq-eqb, ne-eqb}
 use Rattle.propagate.proofs.same_group.Statement.{statement}

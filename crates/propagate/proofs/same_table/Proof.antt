@@ -1,7 +1,7 @@
 -- `same_table` compares the first s groups. Invariant: the test of all is the test of those from i on. Assumes nothing.
 use Prim.Native.Nat.{_≤_, _-_}
-use mathlib.Core.Path.{_≡_, refl, _∙_, sym, ap}
-use lib.ListN.{drop, take, length, getD}
+use mathlib.Core.Path.{_≡_, refl, _∙_, sym}
+use lib.ListN.{drop, take}
 use Rattle.model.specs.Propagate.{sameTable}
 use Rattle.propagate.specs.Flat.{groupsIn}
 use Rattle.propagate.proofs.Arrays.{zipped-at, same-goes, same-stops, same-end}

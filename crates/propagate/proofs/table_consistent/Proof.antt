@@ -1,7 +1,7 @@
 -- `table_consistent` tests the first s groups. Invariant: the test of all is the test of those from i on. Assumes nothing.
 use Prim.Native.Nat.{_≤_, _-_}
 use mathlib.Core.Path.{_≡_, refl, _∙_, sym, ap}
-use lib.ListN.{drop, take, length, getD}
+use lib.ListN.{drop, take}
 use Rattle.model.specs.Lists.{every}
 use Rattle.model.specs.Model.{zeroGroup}
 use Rattle.model.specs.Propagate.{groupConsistent, consistent}

@@ -1,7 +1,6 @@
 -- `unpacked` reads the groups into arrays. Invariant: the first i are read, and the others are zero. Assumes nothing.
 use Prim.Native.Nat.{_≤_, _-_}
-use mathlib.Core.Path.{_≡_}
-use Rattle.propagate.specs.Flat.{groupsIn, Whole}
+use Rattle.propagate.specs.Flat.{groupsIn}
 use Rattle.propagate.proofs.Arrays.{Read, read-none, read-next, read-all}
 use native.Mathlib.Omega.{arith}
 use Rattle.propagate.proofs.unpacked.Statement.{statement}
