@@ -1,5 +1,6 @@
 // Settles a sheet: reads it from standard input and writes the settled sheet, in the sheet's own format, to standard output.
 // The number of passes, or a refusal with its meaning, goes to standard error.
+ghost use Prim.Native.Nat.{_≤_};
 use libc::STDERR_FILENO;
 use libc::STDIN_FILENO;
 use libc::STDOUT_FILENO;
@@ -102,15 +103,22 @@ fn write_groups(m: Model) {
     }
 }
 
+// The field of a constraint's first group: after the count of code 6, in its place of every other code.
+fn first_group(code: u32) -> usize
+    ensures { λ r. ⌜ r ≤ 3 ⌝ }
+{
+    if code == 6 {
+        return 3;
+    }
+    2
+}
+
 fn write_constraint(c: Constraint) {
     let mut line = [32u8; LINE];
     put_field(&mut line, 0, 3);
     put_field(&mut line, 1, c.code);
-    let mut first: usize = 2;
-    if c.code == 6 {
-        put_field(&mut line, 2, c.count);
-        first = 3;
-    }
+    put_field(&mut line, 2, c.count);
+    let first = first_group(c.code);
     let k = model::member_count(c.code, c.count);
     let mut j: usize = 0;
     while j < Model::MEMBERS {
