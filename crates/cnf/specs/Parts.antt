@@ -1,0 +1,56 @@
+-- The parts that the block writer's functions write, as texts of the definitions' clauses. Assumes nothing.
+use Prim.Native.Nat.{ℕ, suc, _+_, _<_}
+use mathlib.Core.Bool.{Bool, true, false}
+use mathlib.Core.List.{List, [], _∷_, _++_, map}
+use Rattle.model.specs.declared.Literal.{Literal}
+use Rattle.model.specs.declared.Literal.the-variants.{Pos, Neg}
+use Rattle.model.specs.declared.Term.{Term}
+use Rattle.model.specs.declared.Term.the-variants.{Holds, Fails, Open}
+use Rattle.model.specs.Lists.{each, range}
+use Rattle.model.specs.Totalizer.{Output, keep, up, down, putIn, nodeClauses, shape, treeClauses, unit}
+use Rattle.model.specs.Text.{decimal, literalText, clauseText}
+use Rattle.cnf.specs.declared.Node.{Node}
+
+-- a number and a space
+abbrev pub spaced : ℕ → List ℕ
+spaced v = decimal v ++ (32 ∷ [])
+
+-- a term of a clause that is kept
+abbrev pub termText : Term → List ℕ
+termText Holds = []
+termText Fails = []
+termText (Open l) = literalText l
+
+-- the clause of these terms, or nothing where one of them is true
+unfoldable pub keptText : List Term → List ℕ
+keptText ts = each clauseText (keep ts)
+
+-- the clause of these outputs of a node
+unfoldable pub outputText : Node → List Output → List ℕ
+outputText t f = keptText (map (putIn (t .c) (t .left) (t .d) (t .right) (t .own)) f)
+
+unfoldable pub pairText : Node → ℕ → ℕ → List ℕ
+pairText t p q = outputText t (up p q) ++ outputText t (down p q)
+
+unfoldable pub rowText : Node → ℕ → List ℕ
+rowText t p = each (pairText t p) (range 0 (t .right + 1))
+
+unfoldable pub nodeText : Node → List ℕ
+nodeText t = each (rowText t) (range 0 (t .left + 1))
+
+unfoldable pub treeText : ℕ → ℕ → ℕ → List ℕ
+treeText m v o = each clauseText (treeClauses (shape m) v o)
+
+-- a literal by its sign
+abbrev pub signed : Bool → ℕ → Literal
+signed true v = Pos v
+signed false v = Neg v
+
+unfoldable pub unitText : Bool → ℕ → ℕ → List ℕ
+unitText s first i = clauseText (unit (signed s) first i)
+
+-- a node whose variables are small
+pub record Small (t : Node) : Type 0 where
+  pub lefts : t .c + t .left < 100000
+  pub rights : t .d + t .right < 100000
+  pub owns : t .own + (t .left + t .right) < 100000
