@@ -1,15 +1,22 @@
 -- The parts that the block writer's functions write, as texts of the definitions' clauses. Assumes nothing.
-use Prim.Native.Nat.{ℕ, suc, _+_, _<_}
-use mathlib.Core.Bool.{Bool, true, false}
+use Prim.Native.Nat.{ℕ, suc, _+_, _≤_, _<_}
+use mathlib.Core.Path.{_≡_}
+use mathlib.Core.Bool.{Bool, true, false, cond}
 use mathlib.Core.List.{List, [], _∷_, _++_, map}
 use Rattle.model.specs.declared.Literal.{Literal}
 use Rattle.model.specs.declared.Literal.the-variants.{Pos, Neg}
 use Rattle.model.specs.declared.Term.{Term}
 use Rattle.model.specs.declared.Term.the-variants.{Holds, Fails, Open}
+use lib.ListN.{length, getD}
+use Rattle.model.specs.declared.Group.{Group}
 use Rattle.model.specs.Lists.{each, range}
-use Rattle.model.specs.Totalizer.{Output, keep, up, down, putIn, nodeClauses, shape, treeClauses, unit}
+use Rattle.model.specs.Words.{size}
+use Rattle.model.specs.Model.{zeroGroup}
+use Rattle.model.specs.Cnf.{openCount, atLeast, atMost, counted}
+use Rattle.model.specs.Totalizer.{Output, keep, up, down, putIn, nodeClauses, shape, treeClauses, unit, totalizerClauses}
 use Rattle.model.specs.Text.{decimal, literalText, clauseText}
 use Rattle.cnf.specs.declared.Node.{Node}
+use Rattle.cnf.specs.declared.Counter.{Counter}
 
 -- a number and a space
 abbrev pub spaced : ℕ → List ℕ
@@ -48,6 +55,25 @@ signed false v = Neg v
 
 unfoldable pub unitText : Bool → ℕ → ℕ → List ℕ
 unitText s first i = clauseText (unit (signed s) first i)
+
+-- the text of a group's totalizer, its variables from v on and the outputs from o on
+unfoldable pub groupText : Group → ℕ → ℕ → List ℕ
+groupText g v o = each clauseText (cond (counted g) (totalizerClauses (openCount g) v o (atLeast g) (atMost g)) [])
+
+-- m, L and U
+unfoldable pub counterOf : Group → Counter
+counterOf g = record { free = openCount g; low = atLeast g; high = atMost g; exists = counted g }
+
+-- a group that is in range and at its fixpoint
+pub record Steady (g : Group) : Type 0 where
+  pub few : openCount g ≤ 32
+  pub low-is : atLeast g + size (g .fixed) ≡ g .low
+  pub high-is : atMost g + size (g .fixed) ≡ g .high
+  pub low-high : atLeast g ≤ atMost g
+  pub high-open : atMost g ≤ openCount g
+
+pub record Steadies (t : List Group) : Type 0 where
+  pub at : (i : ℕ) → i < length t → Steady (getD t i zeroGroup)
 
 -- a node whose variables are small
 pub record Small (t : Node) : Type 0 where

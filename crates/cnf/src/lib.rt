@@ -4,13 +4,15 @@ ghost use mathlib.Core.Bool.{true, false};
 ghost use mathlib.Core.List.{[], _∷_, _++_};
 ghost use Prim.Native.Nat.{ℕ, _+_, _-_, _≤_, _<_};
 ghost use lib.ListN.{length, take, drop, getD};
-ghost use Rattle.model.specs.Lists.{any, each, range};
+ghost use Rattle.model.specs.Lists.{any, each, range, total};
 ghost use Rattle.model.specs.Limits.{limits};
-ghost use Rattle.model.specs.Totalizer.{oppositeTerm, holds, output, shape, rootOutput, outputs, up, down, unitClauses};
+ghost use Rattle.model.specs.Totalizer.{oppositeTerm, holds, output, shape, rootOutput, up, down, totalizerClauses, treeOutputCount, treeClauseCount};
+ghost use Rattle.model.specs.Cnf.{openCount, outputsOf, groupClauseCount};
 ghost use Rattle.model.specs.Text.{decimal, literalText, clauseText};
 ghost use Rattle.cnf.specs.Wrote.{Wrote};
-ghost use Rattle.cnf.specs.Parts.{spaced, termText, keptText, outputText, pairText, rowText, nodeText, treeText, unitText, Small};
+ghost use Rattle.cnf.specs.Parts.{spaced, termText, keptText, outputText, pairText, rowText, nodeText, treeText, signed, unitText, groupText, counterOf, Small, Steady, Steadies};
 
+use model::Group;
 use model::Literal;
 use model::Model;
 use model::Term;
@@ -240,4 +242,206 @@ fn put_node(buf: &mut [u8], at: usize, t: Node) -> usize
         p += 1;
     }
     n
+}
+
+// "outputs A(1) = 0, A(m) = m + A(left) + A(right)", for sizes up to 32.
+const OUTPUTS: [u32; 33] = [
+    0, 0, 2, 5, 8, 12, 16, 20, 24, 29, 34, 39, 44, 49, 54, 59, 64,
+    70, 76, 82, 88, 94, 100, 106, 112, 118, 124, 130, 136, 142, 148, 154, 160,
+];
+
+// "Tree clauses T(1) = 0, T(m) = T(left) + T(right) + 2(a+1)(b+1) - 2".
+const CLAUSES: [u32; 33] = [
+    0, 0, 6, 16, 28, 44, 62, 82, 104, 130, 158, 188, 220, 254, 290, 328, 368,
+    412, 458, 506, 556, 608, 662, 718, 776, 836, 898, 962, 1028, 1096, 1166, 1238, 1312,
+];
+
+fn output_count(m: u32) -> u32
+    requires { ⌜ m ≤ 32 ⌝ }
+    ensures { λ r. ⌜ r ≡ treeOutputCount m ⌝ }
+{
+    OUTPUTS[m as usize]
+}
+
+fn clause_count(m: u32) -> u32
+    requires { ⌜ m ≤ 32 ⌝ }
+    ensures { λ r. ⌜ r ≡ treeClauseCount m ⌝ }
+{
+    CLAUSES[m as usize]
+}
+
+// The first output of a tree's root, where its leaves start at v and its outputs at o.
+fn root(m: u32, v: u32, o: u32) -> u32
+    requires { ⌜ (m ≤ 32) × (o < 100000) ⌝ }
+    ensures { λ r. ⌜ r ≡ rootOutput (shape m) v o ⌝ }
+{
+    if m < 2 {
+        return v;
+    }
+    o + output_count(m) - m
+}
+
+// The tree of size m: left half, right half, then the node itself.
+fn put_tree(buf: &mut [u8], at: usize, m: u32, v: u32, o: u32) -> usize
+    requires { ⌜ (1 ≤ m) × (m ≤ 32) × (v + m < 50000) × (o + treeOutputCount m < 50000) ⌝ }
+    requires { ⌜ at + length (treeText m v o) ≤ length (now buf) ⌝ }
+    ensures { λ r. ⌜ Wrote (treeText m v o) at (now (buf .entry)) (now (buf .exit)) r ⌝ }
+{
+    if m < 2 {
+        return at;
+    }
+    let a = m / 2;
+    let b = m - a;
+    let w = v + a;
+    let p = o + output_count(a);
+    let own = p + output_count(b);
+    let c = root(a, v, o);
+    let d = root(b, w, p);
+    let x = put_tree(buf, at, a, v, o);
+    let y = put_tree(buf, x, b, w, p);
+    let t = Node {
+        c,
+        left: a,
+        d,
+        right: b,
+        own,
+    };
+    put_node(buf, y, t)
+}
+
+// The clause of one literal.
+fn put_unit(buf: &mut [u8], at: usize, positive: bool, v: u32) -> usize
+    requires { ⌜ at + length (clauseText (signed positive v ∷ [])) ≤ length (now buf) ⌝ }
+    ensures { λ r. ⌜ Wrote (clauseText (signed positive v ∷ [])) at (now (buf .entry)) (now (buf .exit)) r ⌝ }
+{
+    if positive {
+        let x = Term::Open(Literal::Pos(v));
+        return put_three(buf, at, x, Term::Fails, Term::Fails);
+    }
+    let y = Term::Open(Literal::Neg(v));
+    put_three(buf, at, y, Term::Fails, Term::Fails)
+}
+
+// The unit clauses of the outputs a, a + 1, .. (k of them) that are numbered from first on.
+fn put_units(buf: &mut [u8], at: usize, positive: bool, first: u32, a: u32, k: u32) -> usize
+    requires { ⌜ first + (a + k) < 100000 ⌝ }
+    requires { ⌜ at + length (each (unitText positive first) (range a k)) ≤ length (now buf) ⌝ }
+    ensures { λ r. ⌜ Wrote (each (unitText positive first) (range a k)) at (now (buf .entry)) (now (buf .exit)) r ⌝ }
+{
+    let mut n = at;
+    let mut i = 0;
+    while i < k {
+        n = put_unit(buf, n, positive, first + (a + i));
+        i += 1;
+    }
+    n
+}
+
+// A totalizer: the tree, then its units.
+fn put_totalizer(buf: &mut [u8], at: usize, m: u32, v: u32, o: u32, low: u32, high: u32) -> usize
+    requires { ⌜ (1 ≤ m) × (m ≤ 32) × (v + m < 50000) × (o + treeOutputCount m < 50000) ⌝ }
+    requires { ⌜ (low ≤ m) × (high ≤ m) ⌝ }
+    requires { ⌜ at + length (each clauseText (totalizerClauses m v o low high)) ≤ length (now buf) ⌝ }
+    ensures { λ r. ⌜ Wrote (each clauseText (totalizerClauses m v o low high)) at (now (buf .entry)) (now (buf .exit)) r ⌝ }
+{
+    let first = root(m, v, o);
+    let x = put_tree(buf, at, m, v, o);
+    let y = put_units(buf, x, true, first, 0, low);
+    put_units(buf, y, false, first, high, m - high)
+}
+
+// ---- a group
+
+// How many entrants are open.
+fn open_count(g: Group) -> u32
+    ensures { λ r. ⌜ r ≡ openCount g ⌝ }
+{
+    u64::count_ones(g.possible ^ (g.possible & g.fixed))
+}
+
+// m, L and U of a group, and whether it has a totalizer.
+struct Counter {
+    free: u32,
+    low: u32,
+    high: u32,
+    exists: bool,
+}
+
+fn counter_of(g: Group) -> Counter
+    requires { ⌜ Steady g ⌝ }
+    ensures { λ r. ⌜ r ≡ counterOf g ⌝ }
+{
+    let free = open_count(g);
+    let fixed = u64::count_ones(g.fixed);
+    let low = g.low - fixed;
+    let high = g.high - fixed;
+    let exists = 0 < low || high < free;
+    Counter {
+        free,
+        low,
+        high,
+        exists,
+    }
+}
+
+// The clauses of a group's totalizer, if it has one; its variables start at v and the outputs at o.
+fn put_group(buf: &mut [u8], at: usize, g: Group, v: u32, o: u32) -> usize
+    requires { ⌜ Steady g ⌝ }
+    requires { ⌜ (v + openCount g < 50000) × (o + outputsOf g < 50000) ⌝ }
+    requires { ⌜ at + length (groupText g v o) ≤ length (now buf) ⌝ }
+    ensures { λ r. ⌜ Wrote (groupText g v o) at (now (buf .entry)) (now (buf .exit)) r ⌝ }
+{
+    let c = counter_of(g);
+    if !c.exists {
+        return at;
+    }
+    put_totalizer(buf, at, c.free, v, o, c.low, c.high)
+}
+
+// What the groups before a place have in all: open entrants, outputs and clauses.
+struct Sums {
+    free: u32,
+    outputs: u32,
+    clauses: u32,
+}
+
+fn add_group(t: Sums, g: Group) -> Sums
+    requires { ⌜ Steady g ⌝ }
+    requires { ⌜ (t .free < 1000000) × (t .outputs < 1000000) × (t .clauses < 1000000) ⌝ }
+    ensures { λ r. ⌜ (r .free ≡ t .free + openCount g) × (r .outputs ≡ t .outputs + outputsOf g) × (r .clauses ≡ t .clauses + groupClauseCount g) ⌝ }
+{
+    let c = counter_of(g);
+    if !c.exists {
+        return Sums {
+            free: t.free + c.free,
+            outputs: t.outputs,
+            clauses: t.clauses,
+        };
+    }
+    Sums {
+        free: t.free + c.free,
+        outputs: t.outputs + output_count(c.free),
+        clauses: t.clauses + (clause_count(c.free) + c.low + (c.free - c.high)),
+    }
+}
+
+// The first k groups.
+fn sum_groups(groups: [Group; Model::GROUPS], k: usize) -> Sums
+    requires { ⌜ k ≤ limits .groups ⌝ }
+    requires { ⌜ Steadies (take k groups) ⌝ }
+    ensures { λ r. ⌜ (r .free ≡ total openCount (take k groups)) × (r .outputs ≡ total outputsOf (take k groups)) × (r .clauses ≡ total groupClauseCount (take k groups)) ⌝ }
+{
+    let mut t = Sums {
+        free: 0,
+        outputs: 0,
+        clauses: 0,
+    };
+    let mut i: usize = 0;
+    while i < k {
+        let g = groups[i];
+        let u = add_group(t, g);
+        t = u;
+        i += 1;
+    }
+    t
 }

@@ -32,7 +32,7 @@ loop-less : tie.Need-loop-less Inv-loop μ-loop
 loop-less c = omega arith
 
 loop-again : tie.Need-loop-again Inv-loop μ-loop
-loop-again c = (omega arith, turn _ _ (c .before .before .before .before .before .loop .inv .1) (c .before .before .put-row .ensures))
+loop-again c = (omega arith, turn (rowText (c .before .before .before .before .before .before .before .before .args .t)) (c .before .before .before .before .before .loop .p) (c .before .before .before .before .before .loop .inv .1) (c .before .before .put-row .ensures))
 
 same-length : tie.Need-same-length Inv-loop μ-loop
 same-length c = kept (c .before .loop .inv .1)

@@ -32,7 +32,7 @@ loop-less : tie.Need-loop-less Inv-loop μ-loop
 loop-less c = omega arith
 
 loop-again : tie.Need-loop-again Inv-loop μ-loop
-loop-again c = (omega arith, turn (pairText (c .before .before .before .before .before .before .before .before .before .args .t) (c .before .before .before .before .before .before .before .before .before .args .p)) (c .before .before .before .before .before .loop .q) (c .before .before .before .before .before .loop .inv .1) (c .before .before .put-pair .ensures))
+loop-again c = (omega arith, turn (pairText (c .before .before .before .before .before .before .before .before .args .t) (c .before .before .before .before .before .before .before .before .args .p)) (c .before .before .before .before .before .loop .q) (c .before .before .before .before .before .loop .inv .1) (c .before .before .put-pair .ensures))
 
 same-length : tie.Need-same-length Inv-loop μ-loop
 same-length c = kept (c .before .loop .inv .1)
