@@ -3,3 +3,5 @@ pub mod Numbers
 pub mod Clauses
 pub mod Nodes
 pub mod Trees
+pub mod Groups
+pub mod MemberTerms

@@ -1,5 +1,5 @@
 -- The parts that the block writer's functions write, as texts of the definitions' clauses. Assumes nothing.
-use Prim.Native.Nat.{ℕ, suc, _+_, _≤_, _<_}
+use Prim.Native.Nat.{ℕ, suc, _+_, _%_, _^_, _≤_, _<_}
 use mathlib.Core.Path.{_≡_}
 use mathlib.Core.Bool.{Bool, true, false, cond}
 use mathlib.Core.List.{List, [], _∷_, _++_, map}
@@ -7,16 +7,21 @@ use Rattle.model.specs.declared.Literal.{Literal}
 use Rattle.model.specs.declared.Literal.the-variants.{Pos, Neg}
 use Rattle.model.specs.declared.Term.{Term}
 use Rattle.model.specs.declared.Term.the-variants.{Holds, Fails, Open}
+use lib.Dec.{ltb}
 use lib.ListN.{length, getD}
 use Rattle.model.specs.declared.Group.{Group}
 use Rattle.model.specs.Lists.{each, range}
-use Rattle.model.specs.Words.{size}
-use Rattle.model.specs.Model.{zeroGroup}
-use Rattle.model.specs.Cnf.{openCount, atLeast, atMost, counted}
-use Rattle.model.specs.Totalizer.{Output, keep, up, down, putIn, nodeClauses, shape, treeClauses, unit, totalizerClauses}
+use Rattle.model.specs.Words.{less, size, has}
+use Rattle.model.specs.Limits.{limits}
+use Rattle.model.specs.Clauses.{memberClauses}
+use Rattle.model.specs.Assignment.{variable}
+use Rattle.model.specs.Model.{zeroGroup, groupAt}
+use Rattle.model.specs.Cnf.{openCount, atLeast, atMost, counted, firstVariable}
+use Rattle.model.specs.Totalizer.{Output, oppositeTerm, keep, up, down, putIn, nodeClauses, shape, treeClauses, unit, totalizerClauses}
 use Rattle.model.specs.Text.{decimal, literalText, clauseText}
 use Rattle.cnf.specs.declared.Node.{Node}
 use Rattle.cnf.specs.declared.Counter.{Counter}
+use Rattle.cnf.specs.declared.Member.{Member}
 
 -- a number and a space
 abbrev pub spaced : ℕ → List ℕ
@@ -63,6 +68,40 @@ groupText g v o = each clauseText (cond (counted g) (totalizerClauses (openCount
 -- m, L and U
 unfoldable pub counterOf : Group → Counter
 counterOf g = record { free = openCount g; low = atLeast g; high = atMost g; exists = counted g }
+
+-- ---- a constraint
+
+-- group g of a table
+unfoldable pub memberOf : List Group → ℕ → Member
+memberOf t g = record { fixed = groupAt t g .fixed; possible = groupAt t g .possible; first = firstVariable t g }
+
+-- "in group g" for bit e
+unfoldable pub memberTerm : ℕ → Member → Term
+memberTerm e m =
+    cond (has (m .fixed) e) Holds
+    (cond (has (m .possible) e) (Open (Pos (m .first + size (less (m .possible) (m .fixed) % 2 ^ e)))) Fails)
+
+abbrev pub smallMember : Member → Bool
+smallMember m = ltb (m .first) 100000
+
+-- a literal of a member, where the members' terms are ts
+abbrev pub literalTerm : List Term → Literal → Term
+literalTerm ts (Pos i) = getD ts i Holds
+literalTerm ts (Neg i) = oppositeTerm (getD ts i Holds)
+
+unfoldable pub clauseOf : ℕ → ℕ → ℕ → List Literal
+clauseOf code count j = getD (memberClauses code count) j []
+
+-- no clause of these has more literals than a constraint has groups, and no literal is of a later member
+pub record Fitting (code count : ℕ) : Type 0 where
+  pub few : (j : ℕ) → length (clauseOf code count j) ≤ limits .members
+  pub below : (j i : ℕ) → variable (getD (clauseOf code count j) i (Pos 0)) < limits .members
+
+unfoldable pub memberClauseText : List Term → ℕ → ℕ → ℕ → List ℕ
+memberClauseText ts code count j = keptText (map (literalTerm ts) (clauseOf code count j))
+
+unfoldable pub entrantText : List Term → ℕ → ℕ → List ℕ
+entrantText ts code count = each (memberClauseText ts code count) (range 0 (length (memberClauses code count)))
 
 -- a group that is in range and at its fixpoint
 pub record Steady (g : Group) : Type 0 where

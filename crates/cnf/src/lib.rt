@@ -1,16 +1,18 @@
 // The block writer: one block of the listing in a buffer of the caller's. The third step of the chain.
 ghost use mathlib.Core.Path.{_≡_};
 ghost use mathlib.Core.Bool.{true, false};
-ghost use mathlib.Core.List.{[], _∷_, _++_};
+ghost use mathlib.Core.List.{[], _∷_, _++_, map};
+ghost use lib.Dec.{T};
 ghost use Prim.Native.Nat.{ℕ, _+_, _-_, _≤_, _<_};
 ghost use lib.ListN.{length, take, drop, getD};
-ghost use Rattle.model.specs.Lists.{any, each, range, total};
+ghost use Rattle.model.specs.Lists.{any, each, every, between, range, total};
 ghost use Rattle.model.specs.Limits.{limits};
 ghost use Rattle.model.specs.Totalizer.{oppositeTerm, holds, output, shape, rootOutput, up, down, totalizerClauses, treeOutputCount, treeClauseCount};
 ghost use Rattle.model.specs.Cnf.{openCount, outputsOf, groupClauseCount};
+ghost use Rattle.model.specs.Assignment.{variable};
 ghost use Rattle.model.specs.Text.{decimal, literalText, clauseText};
 ghost use Rattle.cnf.specs.Wrote.{Wrote};
-ghost use Rattle.cnf.specs.Parts.{spaced, termText, keptText, outputText, pairText, rowText, nodeText, treeText, signed, unitText, groupText, counterOf, Small, Steady, Steadies};
+ghost use Rattle.cnf.specs.Parts.{spaced, termText, keptText, outputText, pairText, rowText, nodeText, treeText, signed, unitText, groupText, counterOf, memberOf, memberTerm, smallMember, literalTerm, clauseOf, memberClauseText, entrantText, Small, Steady, Steadies, Fitting};
 
 use model::Group;
 use model::Literal;
@@ -444,4 +446,137 @@ fn sum_groups(groups: [Group; Model::GROUPS], k: usize) -> Sums
         i += 1;
     }
     t
+}
+
+// ---- a constraint
+
+// What a constraint asks of one of its groups: the words and the first variable.
+struct Member {
+    fixed: u64,
+    possible: u64,
+    first: u32,
+}
+
+// Group g of the first s.
+fn member_of(groups: [Group; Model::GROUPS], s: usize, g: usize) -> Member
+    requires { ⌜ (s ≤ limits .groups) × (1 ≤ g) × (g ≤ s) ⌝ }
+    requires { ⌜ Steadies (take s groups) ⌝ }
+    ensures { λ r. ⌜ r ≡ memberOf (take s groups) g ⌝ }
+{
+    let i = g - 1;
+    let t = sum_groups(groups, i);
+    let x = groups[i];
+    Member {
+        fixed: x.fixed,
+        possible: x.possible,
+        first: 1 + t.free,
+    }
+}
+
+// The first k groups of a constraint.
+fn members(groups: [Group; Model::GROUPS], s: usize, ids: [u32; Model::MEMBERS], k: usize) -> [Member; Model::MEMBERS]
+    requires { ⌜ (s ≤ limits .groups) × (k ≤ limits .members) ⌝ }
+    requires { ⌜ Steadies (take s groups) ⌝ }
+    requires { ⌜ T (every (between 1 s) (take k ids)) ⌝ }
+    ensures { λ r. ⌜ (length r ≡ limits .members) × (take k r ≡ map (memberOf (take s groups)) (take k ids)) ⌝ }
+{
+    let none = Member {
+        fixed: 0,
+        possible: 0,
+        first: 0,
+    };
+    let mut r = [none; Model::MEMBERS];
+    let mut i: usize = 0;
+    while i < k {
+        r[i] = member_of(groups, s, ids[i] as usize);
+        i += 1;
+    }
+    r
+}
+
+// "in group g" for entrant e.
+fn member_term(m: Member, e: u32) -> Term
+    requires { ⌜ (e < 32) × (m .first < 100000) ⌝ }
+    ensures { λ r. ⌜ r ≡ memberTerm e m ⌝ }
+{
+    if (m.fixed >> e) % 2 == 1 {
+        return Term::Holds;
+    }
+    if (m.possible >> e) % 2 == 1 {
+        let free = m.possible ^ (m.possible & m.fixed);
+        let below = free % (1 << e);
+        return Term::Open(Literal::Pos(m.first + u64::count_ones(below)));
+    }
+    Term::Fails
+}
+
+// The same for each of the first k groups.
+fn member_terms(ms: [Member; Model::MEMBERS], k: usize, e: u32) -> [Term; Model::MEMBERS]
+    requires { ⌜ (k ≤ limits .members) × (e < 32) ⌝ }
+    requires { ⌜ T (every smallMember (take k ms)) ⌝ }
+    ensures { λ r. ⌜ (length r ≡ limits .members) × (take k r ≡ map (memberTerm e) (take k ms)) ⌝ }
+{
+    let mut r = [Term::Fails; Model::MEMBERS];
+    let mut i: usize = 0;
+    while i < k {
+        let m = ms[i];
+        r[i] = member_term(m, e);
+        i += 1;
+    }
+    r
+}
+
+// A literal of a member.
+fn literal_term(ts: [Term; Model::MEMBERS], l: Literal) -> Term
+    requires { ⌜ variable l < limits .members ⌝ }
+    ensures { λ r. ⌜ r ≡ literalTerm ts l ⌝ }
+{
+    match l {
+        Literal::Pos(i) => ts[i as usize],
+        Literal::Neg(i) => opposite(ts[i as usize]),
+    }
+}
+
+// The terms of clause j.
+fn clause_terms(ts: [Term; Model::MEMBERS], code: u32, count: u32, j: usize) -> [Term; Model::MEMBERS]
+    requires { ⌜ Fitting code count ⌝ }
+    ensures { λ r. ⌜ (length r ≡ limits .members) × (take (length (clauseOf code count j)) r ≡ map (literalTerm ts) (clauseOf code count j)) ⌝ }
+{
+    let k = constraint::literal_count(code, count, j);
+    let mut r = [Term::Fails; Model::MEMBERS];
+    let mut i: usize = 0;
+    while i < k {
+        let l = constraint::literal_at(code, count, j, i);
+        r[i] = literal_term(ts, l);
+        i += 1;
+    }
+    r
+}
+
+// Clause j, in the part of buf from at on.
+fn put_member_clause(buf: &mut [u8], at: usize, ts: [Term; Model::MEMBERS], code: u32, count: u32, j: usize) -> usize
+    requires { ⌜ Fitting code count ⌝ }
+    requires { ⌜ at + length (memberClauseText ts code count j) ≤ length (now buf) ⌝ }
+    ensures { λ r. ⌜ Wrote (memberClauseText ts code count j) at (now (buf .entry)) (now (buf .exit)) r ⌝ }
+{
+    let k = constraint::literal_count(code, count, j);
+    let cs = clause_terms(ts, code, count, j);
+    let n = put_clause(&mut buf[at..], cs, k);
+    at + n
+}
+
+// The clauses of one entrant.
+fn put_entrant(buf: &mut [u8], at: usize, ts: [Term; Model::MEMBERS], code: u32, count: u32) -> usize
+    requires { ⌜ Fitting code count ⌝ }
+    requires { ⌜ at + length (entrantText ts code count) ≤ length (now buf) ⌝ }
+    ensures { λ r. ⌜ Wrote (entrantText ts code count) at (now (buf .entry)) (now (buf .exit)) r ⌝ }
+{
+    let end = constraint::clause_count(code, count);
+    let mut n = at;
+    let mut j: usize = 0;
+    while j < end {
+        n = put_member_clause(buf, n, ts, code, count, j);
+        j += 1;
+    }
+    n
 }

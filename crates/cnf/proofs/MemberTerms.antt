@@ -1,0 +1,79 @@
+-- Laws of a constraint's terms: members, literals and the arrays that hold them. Assumes nothing.
+use mathlib.Core.Path.{_≡_, refl, sym, ap, ap₂, _∙_}
+use mathlib.Core.Bool.{Bool, true, false, cond}
+use mathlib.Core.List.{List, [], _∷_, _++_, map}
+use Prim.Native.Nat.{ℕ, zero, suc, _+_, _-_, _*_, _/_, _%_, _^_, _≤_, _<_}
+use native.Mathlib.Nat.{one-mul, mod-lt}
+use native.Mathlib.Numerals.{add-one}
+use native.Mathlib.Omega.{arith}
+use borrow.Author.Tests.{eq-eqb, ne-eqb}
+use lib.Dec.{T, ltb, ltb→lt}
+use lib.Bits.{bitAnd, bitXor}
+use lib.Count.{ones, ones-le}
+use lib.Pow.{shl-exact, pow-pos}
+use lib.ListN.{length, getD, set, take, length-take}
+use lib.Seq.{getD-take}
+use Rattle.model.specs.declared.Literal.{Literal}
+use Rattle.model.specs.declared.Literal.the-variants.{Pos, Neg}
+use Rattle.model.specs.declared.Term.{Term}
+use Rattle.model.specs.declared.Term.the-variants.{Holds, Fails, Open}
+use Rattle.model.specs.Lists.{every}
+use Rattle.model.specs.Words.{less, size, bit, has}
+use Rattle.model.specs.Assignment.{variable}
+use Rattle.model.proofs.Words.{size-ones}
+use Rattle.model.proofs.Lists.{every-getD}
+use Rattle.cnf.specs.declared.Member.{Member}
+use Rattle.cnf.specs.Parts.{memberTerm, smallMember, literalTerm}
+use Rattle.cnf.proofs.Clauses.{next-take}
+
+-- ---- an array that is filled from the front
+
+module _ {B : Type 0} where
+  take-set-next : (r : List B) (i : ℕ) (x : B) → i < length r → take (i + 1) (set r i x) ≡ take i r ++ x ∷ []
+  take-set-next [] i x h = absurd (omega arith)
+  take-set-next (y ∷ r) zero x h = refl
+  take-set-next (y ∷ r) (suc i) x h =
+      ap (λ (n : ℕ). take n (set (y ∷ r) (suc i) x)) (add-one (suc i))
+      ∙ ap {B = List B} (λ l. y ∷ l) (ap (λ (n : ℕ). take n (set r i x)) (sym (add-one i)) ∙ take-set-next r i x (omega arith))
+
+module _ {A B : Type 0} where
+  map-append : (f : A → B) (xs ys : List A) → map f (xs ++ ys) ≡ map f xs ++ map f ys
+  map-append f [] ys = refl
+  map-append f (x ∷ xs) ys = ap {B = List B} (λ l. f x ∷ l) (map-append f xs ys)
+
+  pub fill-next : (f : A → B) (xs : List A) (r : List B) (i : ℕ) (d : A) (x : B) → i < length xs → i < length r
+      → take i r ≡ map f (take i xs) → x ≡ f (getD xs i d) → take (i + 1) (set r i x) ≡ map f (take (i + 1) xs)
+  fill-next f xs r i d x h k inv e =
+      take-set-next r i x k
+      ∙ ap₂ (λ (l m : List B). l ++ m) inv (ap {B = List B} (λ y. y ∷ []) e)
+      ∙ sym (ap (map f) (next-take xs i d h) ∙ map-append f (take i xs) (getD xs i d ∷ []))
+
+-- ---- a member's term
+
+-- `1 << e` is 2 to the e
+pub power : (e : ℕ) → e < 32 → 1 * 2 ^ e % 2 ^ 64 ≡ 2 ^ e
+power e h = shl-exact 1 e 64 (omega arith) (omega arith) ∙ one-mul (2 ^ e)
+
+module _ (m : Member) (e : ℕ) where
+  pub term-holds : m .fixed / 2 ^ e % 2 ≡ 1 → Holds ≡ memberTerm e m
+  unfolding memberTerm has bit
+  term-holds h = rw (eq-eqb (m .fixed / 2 ^ e % 2) 1 h)
+
+  pub term-fails : (m .fixed / 2 ^ e % 2 ≡ 1 → ⊥) → (m .possible / 2 ^ e % 2 ≡ 1 → ⊥) → Fails ≡ memberTerm e m
+  unfolding memberTerm has bit
+  term-fails h k = rw (ne-eqb (m .fixed / 2 ^ e % 2) 1 h, ne-eqb (m .possible / 2 ^ e % 2) 1 k)
+
+  pub term-open : (m .fixed / 2 ^ e % 2 ≡ 1 → ⊥) → m .possible / 2 ^ e % 2 ≡ 1 → (d : ℕ) → d ≡ 2 ^ e
+      → Open (Pos (m .first + ones (bitXor (m .possible) (bitAnd (m .possible) (m .fixed)) % d))) ≡ memberTerm e m
+  unfolding memberTerm has bit less
+  term-open h k d q =
+      rw (ne-eqb (m .fixed / 2 ^ e % 2) 1 h, eq-eqb (m .possible / 2 ^ e % 2) 1 k, q)
+      (ap (λ (n : ℕ). Open (Pos (m .first + n))) (sym (size-ones (bitXor (m .possible) (bitAnd (m .possible) (m .fixed)) % 2 ^ e))))
+
+pub below-few : (w e d : ℕ) → d ≡ 2 ^ e → ones (w % d) ≤ e
+below-few w e d q = rw q (ones-le e (w % 2 ^ e) (mod-lt w (pow-pos e)))
+
+pub small-at : (ms : List Member) (k i : ℕ) (d : Member) → T (every smallMember (take k ms)) → i < k → k ≤ length ms → (getD ms i d) .first < 100000
+small-at ms k i d t h l =
+    ltb→lt ((getD ms i d) .first) 100000
+    (rw (getD-take k ms i d h) at (every-getD smallMember (take k ms) d i t (omega (arith, length-take k ms))))
