@@ -1,8 +1,9 @@
 -- `sum_groups` adds up the first groups. Assumes nothing.
 use mathlib.Core.Path.{_≡_, refl, sym, ap, _∙_}
-use Prim.Native.Nat.{ℕ, _+_, _-_, _*_, _≤_}
-use lib.ListN.{take}
+use Prim.Native.Nat.{ℕ, _+_, _-_, _*_, _≤_, _<_}
+use lib.ListN.{length, take}
 use Rattle.model.specs.Lists.{total}
+use Rattle.model.specs.Model.{zeroGroup}
 use Rattle.model.specs.declared.Group.{Group}
 use Rattle.model.specs.Cnf.{openCount, outputsOf, groupClauseCount}
 use Rattle.cnf.proofs.Groups.{total-next, steady-at, group-bounds}
@@ -26,6 +27,7 @@ array-copy-out-g : tie.Need-array-copy-out-g Inv-loop μ-loop
 array-copy-out-g c = omega (arith, (c .before .before .good .0))
 
 add-group-requires : tie.Need-add-group-requires Inv-loop μ-loop
+unfolding zeroGroup
 add-group-requires c κs = (steady-at (c .before .before .before .args .t1) (c .before .before .before .args .k) (c .before .before .loop .i) (c .before .before .before .pre .1) (c .before .loop-test .taken) (omega (arith, (c .before .before .before .good .0))), (omega arith, omega arith, omega arith))
 
 add-i : tie.Need-add-i Inv-loop μ-loop
@@ -35,14 +37,14 @@ loop-less : tie.Need-loop-less Inv-loop μ-loop
 loop-less c = omega arith
 
 loop-again : tie.Need-loop-again Inv-loop μ-loop
+unfolding zeroGroup
 loop-again c = 
     let s = steady-at (c .before .before .before .before .args .t1) (c .before .before .before .before .args .k) (c .before .before .before .loop .i) (c .before .before .before .before .pre .1) (c .before .before .loop-test .taken) (omega (arith, (c .before .before .before .before .good .0))) in
     let b = group-bounds _ s in
-    let l : (c .before .before .before .loop .i) Prim.Native.Nat.< lib.ListN.length (c .before .before .before .before .args .t1) = omega (arith, (c .before .before .before .before .good .0)) in
-    let n = λ (f : Group → ℕ). total-next f (c .before .before .before .before .args .t1) (c .before .before .before .loop .i) l in
+    let l : (c .before .before .before .loop .i) < length (c .before .before .before .before .args .t1) = omega (arith, (c .before .before .before .before .good .0)) in
     let a = (c .add-group .ensures) in
     let v = (c .before .before .before .loop .inv .1) in
-    (omega arith, (omega (arith, n openCount, a .0, v .0), omega (arith, n outputsOf, a .1, v .1), omega (arith, n groupClauseCount, a .2, v .2)), (omega (arith, a .0, b .0, (c .before .before .before .loop .inv .2 .0)), omega (arith, a .1, b .1, (c .before .before .before .loop .inv .2 .1)), omega (arith, a .2, b .2, (c .before .before .before .loop .inv .2 .2))))
+    (omega arith, (omega (arith, total-next openCount (c .before .before .before .before .args .t1) (c .before .before .before .loop .i) l, a .0, v .0), omega (arith, total-next outputsOf (c .before .before .before .before .args .t1) (c .before .before .before .loop .i) l, a .1, v .1), omega (arith, total-next groupClauseCount (c .before .before .before .before .args .t1) (c .before .before .before .loop .i) l, a .2, v .2)), (omega (arith, a .0, b .0, (c .before .before .before .loop .inv .2 .0)), omega (arith, a .1, b .1, (c .before .before .before .loop .inv .2 .1)), omega (arith, a .2, b .2, (c .before .before .before .loop .inv .2 .2))))
 
 returns : tie.Need-returns Inv-loop μ-loop
 returns c = let e : (c .before .loop .i) ≡ (c .before .before .args .k) = omega arith in let v = (c .before .loop .inv .1) in (v .0 ∙ ap (λ (n : ℕ). total openCount (take n (c .before .before .args .t1))) e, v .1 ∙ ap (λ (n : ℕ). total outputsOf (take n (c .before .before .args .t1))) e, v .2 ∙ ap (λ (n : ℕ). total groupClauseCount (take n (c .before .before .args .t1))) e)
