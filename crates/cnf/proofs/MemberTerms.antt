@@ -17,14 +17,18 @@ use Rattle.model.specs.declared.Literal.{Literal}
 use Rattle.model.specs.declared.Literal.the-variants.{Pos, Neg}
 use Rattle.model.specs.declared.Term.{Term}
 use Rattle.model.specs.declared.Term.the-variants.{Holds, Fails, Open}
-use Rattle.model.specs.Lists.{every}
+use Rattle.model.specs.declared.Group.{Group}
+use Rattle.model.specs.Lists.{every, total}
+use Rattle.model.specs.Model.{zeroGroup, groupAt}
+use Rattle.model.specs.Cnf.{openCount, firstVariable}
 use Rattle.model.specs.Words.{less, size, bit, has}
 use Rattle.model.specs.Assignment.{variable}
 use Rattle.model.proofs.Words.{size-ones}
 use Rattle.model.proofs.Lists.{every-getD}
 use Rattle.cnf.specs.declared.Member.{Member}
-use Rattle.cnf.specs.Parts.{memberTerm, smallMember, literalTerm}
+use Rattle.cnf.specs.Parts.{keptText, memberOf, memberTerm, smallMember, literalTerm, clauseOf, memberClauseText, Steadies}
 use Rattle.cnf.proofs.Clauses.{next-take}
+use Rattle.cnf.proofs.Groups.{steady-at}
 
 -- ---- an array that is filled from the front
 
@@ -77,3 +81,29 @@ pub small-at : (ms : List Member) (k i : ℕ) (d : Member) → T (every smallMem
 small-at ms k i d t h l =
     ltb→lt ((getD ms i d) .first) 100000
     (rw (getD-take k ms i d h) at (every-getD smallMember (take k ms) d i t (omega (arith, length-take k ms))))
+
+-- ---- a clause's text
+
+pub clause-text : (ts cs : List Term) (code count j k : ℕ) → k ≡ length (clauseOf code count j)
+    → take (length (clauseOf code count j)) cs ≡ map (literalTerm ts) (clauseOf code count j) → keptText (take k cs) ≡ memberClauseText ts code count j
+unfolding memberClauseText
+clause-text ts cs code count j k e h = ap keptText (ap (λ (n : ℕ). take n cs) e ∙ h)
+
+-- ---- steady groups, fewer of them
+
+pub fewer : (t : List Group) (s k : ℕ) → Steadies (take s t) → k ≤ s → s ≤ length t → Steadies (take k t)
+fewer t s k h l n = record { at = λ i q. let q′ = q in rw (sym (getD-take k t i zeroGroup (omega (arith, length-take k t)))) at (steady-at t s i h (omega (arith, length-take k t)) n) }
+
+pub take-less : {A : Type 0} (t : List A) (k s : ℕ) → k ≤ s → take k (take s t) ≡ take k t
+take-less t zero s h = refl
+take-less [] (suc k) zero h = refl
+take-less [] (suc k) (suc s) h = refl
+take-less (x ∷ t) (suc k) zero h = absurd (omega arith)
+take-less {A} (x ∷ t) (suc k) (suc s) h = ap {B = List A} (λ l. x ∷ l) (take-less t k s (omega arith))
+
+-- group g of the first s
+pub member-is : (t : List Group) (s g free : ℕ) → 1 ≤ g → g ≤ s → free ≡ total openCount (take (g - 1) t)
+    → record { fixed = getD t (g - 1) zeroGroup .fixed; possible = getD t (g - 1) zeroGroup .possible; first = 1 + free } ≡ memberOf (take s t) g
+unfolding memberOf groupAt firstVariable
+member-is t s g free h k e =
+    rw (getD-take s t (g - 1) zeroGroup (omega arith), take-less t (g - 1) s (omega arith), e)

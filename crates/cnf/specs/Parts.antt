@@ -103,6 +103,13 @@ memberClauseText ts code count j = keptText (map (literalTerm ts) (clauseOf code
 unfoldable pub entrantText : List Term → ℕ → ℕ → List ℕ
 entrantText ts code count = each (memberClauseText ts code count) (range 0 (length (memberClauses code count)))
 
+-- the first k members are enough
+pub record Within (k code count : ℕ) : Type 0 where
+  pub below : (j i : ℕ) → j < length (memberClauses code count) → i < length (clauseOf code count j) → variable (getD (clauseOf code count j) i (Pos 0)) < k
+
+unfoldable pub constraintText : List Member → ℕ → ℕ → ℕ → List ℕ
+constraintText ms code count n = each (λ e. entrantText (map (memberTerm e) ms) code count) (range 0 n)
+
 -- a group that is in range and at its fixpoint
 pub record Steady (g : Group) : Type 0 where
   pub few : openCount g ≤ 32

@@ -12,7 +12,7 @@ ghost use Rattle.model.specs.Cnf.{openCount, outputsOf, groupClauseCount};
 ghost use Rattle.model.specs.Assignment.{variable};
 ghost use Rattle.model.specs.Text.{decimal, literalText, clauseText};
 ghost use Rattle.cnf.specs.Wrote.{Wrote};
-ghost use Rattle.cnf.specs.Parts.{spaced, termText, keptText, outputText, pairText, rowText, nodeText, treeText, signed, unitText, groupText, counterOf, memberOf, memberTerm, smallMember, literalTerm, clauseOf, memberClauseText, entrantText, Small, Steady, Steadies, Fitting};
+ghost use Rattle.cnf.specs.Parts.{spaced, termText, keptText, outputText, pairText, rowText, nodeText, treeText, signed, unitText, groupText, counterOf, memberOf, memberTerm, smallMember, literalTerm, clauseOf, memberClauseText, entrantText, constraintText, Small, Steady, Steadies, Fitting, Within};
 
 use model::Group;
 use model::Literal;
@@ -579,4 +579,22 @@ fn put_entrant(buf: &mut [u8], at: usize, ts: [Term; Model::MEMBERS], code: u32,
         j += 1;
     }
     n
+}
+
+// The clauses of a constraint of k members, for n entrants.
+fn put_constraint(buf: &mut [u8], at: usize, ms: [Member; Model::MEMBERS], k: usize, code: u32, count: u32, n: u32) -> usize
+    requires { ⌜ (k ≤ limits .members) × (n ≤ 32) ⌝ }
+    requires { ⌜ Fitting code count × Within k code count ⌝ }
+    requires { ⌜ T (every smallMember (take k ms)) ⌝ }
+    requires { ⌜ at + length (constraintText (take k ms) code count n) ≤ length (now buf) ⌝ }
+    ensures { λ r. ⌜ Wrote (constraintText (take k ms) code count n) at (now (buf .entry)) (now (buf .exit)) r ⌝ }
+{
+    let mut x = at;
+    let mut e = 0;
+    while e < n {
+        let ts = member_terms(ms, k, e);
+        x = put_entrant(buf, x, ts, code, count);
+        e += 1;
+    }
+    x
 }

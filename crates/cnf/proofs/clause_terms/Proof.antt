@@ -4,7 +4,6 @@ use mathlib.Core.List.{map}
 use Prim.Native.Nat.{ℕ, _-_, _≤_, _<_}
 use lib.ListN.{length, take, length-set}
 use lib.Seq.{take-length}
-use Rattle.model.specs.declared.Literal.{Literal}
 use Rattle.model.specs.declared.Literal.the-variants.{Pos}
 use Rattle.model.specs.Limits.{limits}
 use Rattle.model.specs.Assignment.{variable}
@@ -35,7 +34,8 @@ unfolding clauseOf
 literal-term-requires c κs = let h = (c .before .before .before .before .pre .below) (c .before .before .before .before .args .j) (c .before .before .loop .i) in omega (arith, ap variable (c .literal-at .ensures), h)
 
 mul-r : tie.Need-mul-r Inv-loop μ-loop
-mul-r c = omega arith
+unfolding clauseOf
+mul-r c = let h = (c .before .before .before .before .before .pre .few) (c .before .before .before .before .before .args .j) in omega (arith, (c .before .before .before .loop .inv .1), (c .before .before .before .before .literal-count .ensures), h)
 
 array-set-from-r : tie.Need-array-set-from-r Inv-loop μ-loop
 unfolding clauseOf
