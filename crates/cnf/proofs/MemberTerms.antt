@@ -18,15 +18,17 @@ use Rattle.model.specs.declared.Literal.the-variants.{Pos, Neg}
 use Rattle.model.specs.declared.Term.{Term}
 use Rattle.model.specs.declared.Term.the-variants.{Holds, Fails, Open}
 use Rattle.model.specs.declared.Group.{Group}
-use Rattle.model.specs.Lists.{every, total}
+use Rattle.model.specs.Lists.{every, each, range, total}
+use Rattle.model.specs.Clauses.{memberClauses}
+use Rattle.model.specs.Totalizer.{oppositeTerm}
 use Rattle.model.specs.Model.{zeroGroup, groupAt}
 use Rattle.model.specs.Cnf.{openCount, firstVariable}
 use Rattle.model.specs.Words.{less, size, bit, has}
 use Rattle.model.specs.Assignment.{variable}
 use Rattle.model.proofs.Words.{size-ones}
-use Rattle.model.proofs.Lists.{every-getD}
+use Rattle.model.proofs.Lists.{every-getD, each-range-ext}
 use Rattle.cnf.specs.declared.Member.{Member}
-use Rattle.cnf.specs.Parts.{keptText, memberOf, memberTerm, smallMember, literalTerm, clauseOf, memberClauseText, Steadies}
+use Rattle.cnf.specs.Parts.{keptText, memberOf, memberTerm, smallMember, literalTerm, clauseOf, memberClauseText, entrantText, Steadies, Within}
 use Rattle.cnf.proofs.Clauses.{next-take}
 use Rattle.cnf.proofs.Groups.{steady-at}
 
@@ -107,3 +109,22 @@ pub member-is : (t : List Group) (s g free : ℕ) → 1 ≤ g → g ≤ s → fr
 unfolding memberOf groupAt firstVariable
 member-is t s g free h k e =
     rw (getD-take s t (g - 1) zeroGroup (omega arith), take-less t (g - 1) s (omega arith), e)
+
+-- ---- the terms past the first k matter to no clause
+
+values-map : {A B : Type 0} (f g : A → B) (d : A) (xs : List A) → ((i : ℕ) → i < length xs → f (getD xs i d) ≡ g (getD xs i d)) → map f xs ≡ map g xs
+values-map f g d [] h = refl
+values-map {A} {B} f g d (x ∷ xs) h =
+    ap₂ (λ (y : B) (ys : List B). y ∷ ys) (h 0 (omega arith)) (values-map f g d xs (λ i l. h (suc i) (omega arith)))
+
+literal-first : (ts : List Term) (k : ℕ) (l : Literal) → variable l < k → literalTerm ts l ≡ literalTerm (take k ts) l
+literal-first ts k (Pos i) h = sym (getD-take k ts i Holds h)
+literal-first ts k (Neg i) h = ap oppositeTerm (sym (getD-take k ts i Holds h))
+
+pub entrant-first : (ts us : List Term) (k code count : ℕ) → Within k code count → take k ts ≡ us → entrantText ts code count ≡ entrantText us code count
+unfolding entrantText memberClauseText
+entrant-first ts us k code count w e =
+    each-range-ext (memberClauseText ts code count) (memberClauseText us code count) 0 (length (memberClauses code count))
+    (λ j _ h. ap keptText (values-map (literalTerm ts) (literalTerm us) (Pos 0) (clauseOf code count j)
+    (λ i l. literal-first ts k (getD (clauseOf code count j) i (Pos 0)) (w .below j i (omega arith) l)
+    ∙ ap (λ (x : List Term). literalTerm x (getD (clauseOf code count j) i (Pos 0))) e)))

@@ -432,6 +432,7 @@ fn sum_groups(groups: [Group; Model::GROUPS], k: usize) -> Sums
     requires { ⌜ k ≤ limits .groups ⌝ }
     requires { ⌜ Steadies (take k groups) ⌝ }
     ensures { λ r. ⌜ (r .free ≡ total openCount (take k groups)) × (r .outputs ≡ total outputsOf (take k groups)) × (r .clauses ≡ total groupClauseCount (take k groups)) ⌝ }
+    ensures { λ r. ⌜ (r .free ≤ 8192) × (r .outputs ≤ 40960) × (r .clauses ≤ 344064) ⌝ }
 {
     let mut t = Sums {
         free: 0,

@@ -47,7 +47,7 @@ loop-again c =
     (omega arith, (omega (arith, total-next openCount (c .before .before .before .before .args .t1) (c .before .before .before .loop .i) l, a .0, v .0), omega (arith, total-next outputsOf (c .before .before .before .before .args .t1) (c .before .before .before .loop .i) l, a .1, v .1), omega (arith, total-next groupClauseCount (c .before .before .before .before .args .t1) (c .before .before .before .loop .i) l, a .2, v .2)), (omega (arith, a .0, b .0, (c .before .before .before .loop .inv .2 .0)), omega (arith, a .1, b .1, (c .before .before .before .loop .inv .2 .1)), omega (arith, a .2, b .2, (c .before .before .before .loop .inv .2 .2))))
 
 returns : tie.Need-returns Inv-loop μ-loop
-returns c = let e : (c .before .loop .i) ≡ (c .before .before .args .k) = omega arith in let v = (c .before .loop .inv .1) in (v .0 ∙ ap (λ (n : ℕ). total openCount (take n (c .before .before .args .t1))) e, v .1 ∙ ap (λ (n : ℕ). total outputsOf (take n (c .before .before .args .t1))) e, v .2 ∙ ap (λ (n : ℕ). total groupClauseCount (take n (c .before .before .args .t1))) e)
+returns c = let e : (c .before .loop .i) ≡ (c .before .before .args .k) = omega arith in let v = (c .before .loop .inv .1) in ((v .0 ∙ ap (λ (n : ℕ). total openCount (take n (c .before .before .args .t1))) e, v .1 ∙ ap (λ (n : ℕ). total outputsOf (take n (c .before .before .args .t1))) e, v .2 ∙ ap (λ (n : ℕ). total groupClauseCount (take n (c .before .before .args .t1))) e), (omega (arith, c .before .loop .inv .2 .0), omega (arith, c .before .loop .inv .2 .1), omega (arith, c .before .loop .inv .2 .2)))
 
 pub sum-groups-spec : {M : Type 1} → statement M
 sum-groups-spec =
