@@ -18,7 +18,8 @@ use Rattle.model.specs.declared.Literal.the-variants.{Pos, Neg}
 use Rattle.model.specs.declared.Term.{Term}
 use Rattle.model.specs.declared.Term.the-variants.{Holds, Fails, Open}
 use Rattle.model.specs.declared.Group.{Group}
-use Rattle.model.specs.Lists.{every, each, range, total}
+use Rattle.encoding_laws.proofs.Members.{between-le}
+use Rattle.model.specs.Lists.{every, between, each, range, total}
 use Rattle.model.specs.Clauses.{memberClauses}
 use Rattle.model.specs.Totalizer.{oppositeTerm}
 use Rattle.model.specs.Model.{zeroGroup, groupAt}
@@ -128,3 +129,9 @@ entrant-first ts us k code count w e =
     (λ j _ h. ap keptText (values-map (literalTerm ts) (literalTerm us) (Pos 0) (clauseOf code count j)
     (λ i l. literal-first ts k (getD (clauseOf code count j) i (Pos 0)) (w .below j i (omega arith) l)
     ∙ ap (λ (x : List Term). literalTerm x (getD (clauseOf code count j) i (Pos 0))) e)))
+
+-- ---- the groups of a constraint
+
+pub number-at : (ids : List ℕ) (s k i : ℕ) → T (every (between 1 s) (take k ids)) → i < k → k ≤ length ids → (1 ≤ getD ids i 0) × (getD ids i 0 ≤ s)
+number-at ids s k i t h l =
+    between-le 1 s (getD ids i 0) (rw (getD-take k ids i 0 h) at (every-getD (between 1 s) (take k ids) 0 i t (omega (arith, length-take k ids))))

@@ -197,10 +197,10 @@ fn put_down(buf: &mut [u8], at: usize, t: Node, p: u32, q: u32) -> usize
     requires { ⌜ at + length (outputText t (down p q)) ≤ length (now buf) ⌝ }
     ensures { λ r. ⌜ Wrote (outputText t (down p q)) at (now (buf .entry)) (now (buf .exit)) r ⌝ }
 {
-    let x = output(t.c, t.left, p + 1);
-    let y = output(t.d, t.right, q + 1);
-    let z = opposite(output(t.own, t.left + t.right, p + q + 1));
-    put_three(buf, at, x, y, z)
+    let c = output(t.c, t.left, p + 1);
+    let d = output(t.d, t.right, q + 1);
+    let n = opposite(output(t.own, t.left + t.right, p + q + 1));
+    put_three(buf, at, c, d, n)
 }
 
 fn put_pair(buf: &mut [u8], at: usize, t: Node, p: u32, q: u32) -> usize
