@@ -5,3 +5,4 @@ pub mod Nodes
 pub mod Trees
 pub mod Groups
 pub mod MemberTerms
+pub mod Lines

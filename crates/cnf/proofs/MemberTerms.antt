@@ -3,7 +3,7 @@ use mathlib.Core.Path.{_≡_, refl, sym, ap, ap₂, _∙_}
 use mathlib.Core.Bool.{Bool, true, false, cond}
 use mathlib.Core.List.{List, [], _∷_, _++_, map}
 use Prim.Native.Nat.{ℕ, zero, suc, _+_, _-_, _*_, _/_, _%_, _^_, _≤_, _<_}
-use native.Mathlib.Nat.{one-mul, mod-lt}
+use native.Mathlib.Nat.{one-mul, mod-lt, zero-add}
 use native.Mathlib.Numerals.{add-one}
 use native.Mathlib.Omega.{arith}
 use borrow.Author.Tests.{eq-eqb, ne-eqb}
@@ -19,17 +19,17 @@ use Rattle.model.specs.declared.Term.{Term}
 use Rattle.model.specs.declared.Term.the-variants.{Holds, Fails, Open}
 use Rattle.model.specs.declared.Group.{Group}
 use Rattle.encoding_laws.proofs.Members.{between-le}
-use Rattle.model.specs.Lists.{every, between, each, range, total}
+use Rattle.model.specs.Lists.{any, every, between, each, range, total}
 use Rattle.model.specs.Clauses.{memberClauses}
-use Rattle.model.specs.Totalizer.{oppositeTerm}
+use Rattle.model.specs.Totalizer.{oppositeTerm, holds, keep}
 use Rattle.model.specs.Model.{zeroGroup, groupAt}
 use Rattle.model.specs.Cnf.{openCount, firstVariable}
 use Rattle.model.specs.Words.{less, size, bit, has}
 use Rattle.model.specs.Assignment.{variable}
 use Rattle.model.proofs.Words.{size-ones}
-use Rattle.model.proofs.Lists.{every-getD, each-range-ext}
+use Rattle.model.proofs.Lists.{every-getD, each-range-ext, range-last, total-append}
 use Rattle.cnf.specs.declared.Member.{Member}
-use Rattle.cnf.specs.Parts.{keptText, memberOf, memberTerm, smallMember, literalTerm, clauseOf, memberClauseText, entrantText, Steadies, Within}
+use Rattle.cnf.specs.Parts.{keptText, memberOf, memberTerm, smallMember, literalTerm, clauseOf, memberClauseText, entrantText, keptCount, Steadies, Within}
 use Rattle.cnf.proofs.Clauses.{next-take}
 use Rattle.cnf.proofs.Groups.{steady-at}
 
@@ -113,7 +113,7 @@ member-is t s g free h k e =
 
 -- ---- the terms past the first k matter to no clause
 
-values-map : {A B : Type 0} (f g : A → B) (d : A) (xs : List A) → ((i : ℕ) → i < length xs → f (getD xs i d) ≡ g (getD xs i d)) → map f xs ≡ map g xs
+pub values-map : {A B : Type 0} (f g : A → B) (d : A) (xs : List A) → ((i : ℕ) → i < length xs → f (getD xs i d) ≡ g (getD xs i d)) → map f xs ≡ map g xs
 values-map f g d [] h = refl
 values-map {A} {B} f g d (x ∷ xs) h =
     ap₂ (λ (y : B) (ys : List B). y ∷ ys) (h 0 (omega arith)) (values-map f g d xs (λ i l. h (suc i) (omega arith)))
@@ -135,3 +135,25 @@ entrant-first ts us k code count w e =
 pub number-at : (ids : List ℕ) (s k i : ℕ) → T (every (between 1 s) (take k ids)) → i < k → k ≤ length ids → (1 ≤ getD ids i 0) × (getD ids i 0 ≤ s)
 number-at ids s k i t h l =
     between-le 1 s (getD ids i 0) (rw (getD-take k ids i 0 h) at (every-getD (between 1 s) (take k ids) 0 i t (omega (arith, length-take k ids))))
+
+-- ---- counting the clauses that are kept
+
+module _ (ts cs : List Term) (code count j k : ℕ) (q : k ≡ length (clauseOf code count j))
+    (h : take (length (clauseOf code count j)) cs ≡ map (literalTerm ts) (clauseOf code count j)) where
+  same-terms : take k cs ≡ map (literalTerm ts) (clauseOf code count j)
+  same-terms = ap (λ (n : ℕ). take n cs) q ∙ h
+
+  pub left-out : any holds (take k cs) ≡ true → 0 ≡ keptCount ts code count j
+  unfolding keptCount keep
+  left-out e = rw (sym (ap (any holds) same-terms) ∙ e)
+
+  pub counted-once : any holds (take k cs) ≡ false → 1 ≡ keptCount ts code count j
+  unfolding keptCount keep
+  counted-once e = rw (sym (ap (any holds) same-terms) ∙ e)
+
+pub total-last : (f : ℕ → ℕ) (k : ℕ) → total f (range 0 (k + 1)) ≡ total f (range 0 k) + f k
+total-last f k =
+    ap (λ (n : ℕ). total f (range 0 n)) (add-one k)
+    ∙ ap (total f) (range-last 0 k)
+    ∙ total-append f (range 0 k) ((0 + k) ∷ [])
+    ∙ omega (arith, ap f (zero-add k))

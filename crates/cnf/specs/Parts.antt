@@ -10,7 +10,7 @@ use Rattle.model.specs.declared.Term.the-variants.{Holds, Fails, Open}
 use lib.Dec.{ltb}
 use lib.ListN.{length, getD}
 use Rattle.model.specs.declared.Group.{Group}
-use Rattle.model.specs.Lists.{each, range}
+use Rattle.model.specs.Lists.{each, range, total}
 use Rattle.model.specs.Words.{less, size, has}
 use Rattle.model.specs.Limits.{limits}
 use Rattle.model.specs.Clauses.{memberClauses}
@@ -109,6 +109,16 @@ pub record Within (k code count : ℕ) : Type 0 where
 
 unfoldable pub constraintText : List Member → ℕ → ℕ → ℕ → List ℕ
 constraintText ms code count n = each (λ e. entrantText (map (memberTerm e) ms) code count) (range 0 n)
+
+-- how many clauses are kept
+unfoldable pub keptCount : List Term → ℕ → ℕ → ℕ → ℕ
+keptCount ts code count j = length (keep (map (literalTerm ts) (clauseOf code count j)))
+
+unfoldable pub entrantCount : List Term → ℕ → ℕ → ℕ
+entrantCount ts code count = total (keptCount ts code count) (range 0 (length (memberClauses code count)))
+
+unfoldable pub constraintCount : List Member → ℕ → ℕ → ℕ → ℕ
+constraintCount ms code count n = total (λ e. entrantCount (map (memberTerm e) ms) code count) (range 0 n)
 
 -- a group that is in range and at its fixpoint
 pub record Steady (g : Group) : Type 0 where

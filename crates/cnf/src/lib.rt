@@ -7,12 +7,13 @@ ghost use Prim.Native.Nat.{ℕ, _+_, _-_, _≤_, _<_};
 ghost use lib.ListN.{length, take, drop, getD};
 ghost use Rattle.model.specs.Lists.{any, each, every, between, range, total};
 ghost use Rattle.model.specs.Limits.{limits};
+ghost use Rattle.model.specs.Clauses.{memberClauses};
 ghost use Rattle.model.specs.Totalizer.{oppositeTerm, holds, output, shape, rootOutput, up, down, totalizerClauses, treeOutputCount, treeClauseCount};
 ghost use Rattle.model.specs.Cnf.{openCount, outputsOf, groupClauseCount};
 ghost use Rattle.model.specs.Assignment.{variable};
 ghost use Rattle.model.specs.Text.{decimal, literalText, clauseText};
 ghost use Rattle.cnf.specs.Wrote.{Wrote};
-ghost use Rattle.cnf.specs.Parts.{spaced, termText, keptText, outputText, pairText, rowText, nodeText, treeText, signed, unitText, groupText, counterOf, memberOf, memberTerm, smallMember, literalTerm, clauseOf, memberClauseText, entrantText, constraintText, Small, Steady, Steadies, Fitting, Within};
+ghost use Rattle.cnf.specs.Parts.{spaced, termText, keptText, outputText, pairText, rowText, nodeText, treeText, signed, unitText, groupText, counterOf, memberOf, memberTerm, smallMember, literalTerm, clauseOf, memberClauseText, entrantText, constraintText, keptCount, entrantCount, constraintCount, Small, Steady, Steadies, Fitting, Within};
 
 use model::Group;
 use model::Literal;
@@ -598,4 +599,53 @@ fn put_constraint(buf: &mut [u8], at: usize, ms: [Member; Model::MEMBERS], k: us
         e += 1;
     }
     x
+}
+
+// ---- counting the clauses that are kept
+
+// 1 where clause j is kept, and 0 where it is left out.
+fn kept_count(ts: [Term; Model::MEMBERS], code: u32, count: u32, j: usize) -> u32
+    requires { ⌜ Fitting code count ⌝ }
+    ensures { λ r. ⌜ (r ≡ keptCount ts code count j) × (r ≤ 1) ⌝ }
+{
+    let k = constraint::literal_count(code, count, j);
+    let cs = clause_terms(ts, code, count, j);
+    if any_true(cs, k) {
+        return 0;
+    }
+    1
+}
+
+// Of one entrant.
+fn entrant_count(ts: [Term; Model::MEMBERS], code: u32, count: u32) -> u32
+    requires { ⌜ Fitting code count ⌝ }
+    requires { ⌜ length (memberClauses code count) ≤ 100 ⌝ }
+    ensures { λ r. ⌜ (r ≡ entrantCount ts code count) × (r ≤ length (memberClauses code count)) ⌝ }
+{
+    let end = constraint::clause_count(code, count);
+    let mut r = 0;
+    let mut j: usize = 0;
+    while j < end {
+        r += kept_count(ts, code, count, j);
+        j += 1;
+    }
+    r
+}
+
+// Of a constraint of k members, for n entrants.
+fn constraint_count(ms: [Member; Model::MEMBERS], k: usize, code: u32, count: u32, n: u32) -> u32
+    requires { ⌜ (k ≤ limits .members) × (n ≤ 32) ⌝ }
+    requires { ⌜ Fitting code count × Within k code count ⌝ }
+    requires { ⌜ length (memberClauses code count) ≤ 100 ⌝ }
+    requires { ⌜ T (every smallMember (take k ms)) ⌝ }
+    ensures { λ r. ⌜ (r ≡ constraintCount (take k ms) code count n) × (r ≤ 3200) ⌝ }
+{
+    let mut r = 0;
+    let mut e = 0;
+    while e < n {
+        let ts = member_terms(ms, k, e);
+        r += entrant_count(ts, code, count);
+        e += 1;
+    }
+    r
 }
