@@ -29,7 +29,7 @@ use Rattle.model.specs.Assignment.{variable}
 use Rattle.model.proofs.Words.{size-ones}
 use Rattle.model.proofs.Lists.{every-getD, each-range-ext, range-last, total-append}
 use Rattle.cnf.specs.declared.Member.{Member}
-use Rattle.cnf.specs.Parts.{keptText, memberOf, memberTerm, smallMember, literalTerm, clauseOf, memberClauseText, entrantText, keptCount, Steadies, Within}
+use Rattle.cnf.specs.Parts.{keptText, memberOf, memberTerm, smallMember, literalTerm, clauseOf, memberClauseText, entrantText, keptCount, entrantCount, Steadies, Within}
 use Rattle.cnf.proofs.Clauses.{next-take}
 use Rattle.cnf.proofs.Groups.{steady-at}
 
@@ -157,3 +157,16 @@ total-last f k =
     ∙ ap (total f) (range-last 0 k)
     ∙ total-append f (range 0 k) ((0 + k) ∷ [])
     ∙ omega (arith, ap f (zero-add k))
+
+total-range-ext : (f g : ℕ → ℕ) (i n : ℕ) → ((j : ℕ) → i ≤ j → j < i + n → f j ≡ g j) → total f (range i n) ≡ total g (range i n)
+total-range-ext f g i zero h = refl
+total-range-ext f g i (suc n) h =
+    ap₂ (λ (a b : ℕ). a + b) (h i (omega arith) (omega arith)) (total-range-ext f g (suc i) n (λ j l k. h j (omega arith) (omega arith)))
+
+pub count-first : (ts us : List Term) (k code count : ℕ) → Within k code count → take k ts ≡ us → entrantCount ts code count ≡ entrantCount us code count
+unfolding entrantCount keptCount
+count-first ts us k code count w e =
+    total-range-ext (keptCount ts code count) (keptCount us code count) 0 (length (memberClauses code count))
+    (λ j _ h. ap (λ (l : List Term). length (keep l)) (values-map (literalTerm ts) (literalTerm us) (Pos 0) (clauseOf code count j)
+    (λ i l. literal-first ts k (getD (clauseOf code count j) i (Pos 0)) (w .below j i (omega arith) l)
+    ∙ ap (λ (x : List Term). literalTerm x (getD (clauseOf code count j) i (Pos 0))) e)))

@@ -1,8 +1,7 @@
 -- The clauses of code 6, place by place. Assumes nothing.
-use mathlib.Core.Path.{_≡_, refl, ap, sym, _∙_}
+use mathlib.Core.Path.{_≡_, refl, ap, _∙_}
 use Prim.Native.Nat.{ℕ, zero, suc, _+_, _≤_, _<_}
-use native.Mathlib.Nat.{zero-add}
-use native.Mathlib.Numerals.{add-one, one-add}
+use native.Mathlib.Numerals.{one-add}
 use native.Mathlib.Omega.{arith}
 use mathlib.Core.List.{List, [], _∷_, _++_, map}
 use lib.ListN.{length, getD, length-map, length-append, List·getD-append, List·getD-eq-default}
@@ -11,12 +10,7 @@ use Rattle.model.specs.declared.Literal.{Literal}
 use Rattle.model.specs.declared.Literal.the-variants.{Pos, Neg}
 use Rattle.model.specs.Lists.{range}
 use Rattle.model.specs.Clauses.{unionClauses}
-use Rattle.model.proofs.Lists.{range-length}
-
-getD-map-range : {B : Type 0} (f : ℕ → B) (a k i : ℕ) (d : B) → i < k → getD (map f (range a k)) i d ≡ f (a + i)
-getD-map-range f a zero i d h = absurd (omega arith)
-getD-map-range f a (suc k) zero d h = ap f (omega arith)
-getD-map-range f a (suc k) (suc i) d h = getD-map-range f (suc a) k i d (omega arith) ∙ ap f (omega arith)
+use Rattle.model.proofs.Lists.{range-length, getD-map-range}
 
 pub union-count : (k : ℕ) → length (unionClauses k) ≡ k + 1
 unfolding unionClauses

@@ -1,15 +1,16 @@
 -- Laws of the definitions' lists: tests, ranges, sums, places. Assumes nothing.
 use mathlib.Core.Path.{_≡_, refl, sym, ap, ap₂, _∙_, subst}
 use mathlib.Core.Logic.{_↔_}
-use Prim.Native.Nat.{ℕ, zero, suc, _+_, _-_, _*_, _≤_, _<_, suc-le-suc}
+use Prim.Native.Nat.{ℕ, zero, suc, _+_, _-_, _*_, _≤_, _<_, min, suc-le-suc}
 use native.Mathlib.Nat.{add-zero, zero-add, add-suc, suc-add, suc-inj, suc-mul, add-assoc, le-of-suc-le-suc}
+use native.Mathlib.Numerals.{add-one}
 use native.Mathlib.Omega.{arith}
 use native.Mathlib.Decide.{decLt, ℕ-discrete}
 use mathlib.Core.Bool.{Bool, true, false, not, _&&_, _||_}
-use mathlib.Core.List.{List, [], _∷_, _++_, map, append-assoc, head-eq-of-cons-eq, tail-eq-of-cons-eq, List·Memᴰ, List·Memᴰ·head, List·Memᴰ·tail, List·Permᴰ, List·Permᴰ·nil, List·Permᴰ·cons, List·Permᴰ·swap, List·Permᴰ·trans}
+use mathlib.Core.List.{List, [], _∷_, _++_, map, append-assoc, append-nil, head-eq-of-cons-eq, tail-eq-of-cons-eq, List·Memᴰ, List·Memᴰ·head, List·Memᴰ·tail, List·Permᴰ, List·Permᴰ·nil, List·Permᴰ·cons, List·Permᴰ·swap, List·Permᴰ·trans}
 use lib.Dec.{T}
-use lib.ListN.{length, getD, set, take, drop, length-append, length-take}
-use lib.Seq.{sets, sets-eq, take-at}
+use lib.ListN.{length, getD, set, take, drop, length-append, length-take, drop-of-length-le}
+use lib.Seq.{sets, sets-eq, take-at, set-at, append-snoc, drop-cons, take-suc, take-all, length-take-le}
 use Rattle.model.specs.Lists.{every, any, pairwise, those, each, total, range, onPlace}
 
 -- ---- tests as facts
@@ -507,3 +508,30 @@ pub any-range-ext : (p q : ℕ → Bool) (i n : ℕ) → ((j : ℕ) → i ≤ j 
 any-range-ext p q i zero h = refl
 any-range-ext p q i (suc n) h =
     ap₂ (λ (x y : Bool). x || y) (h i (omega arith) (omega arith)) (any-range-ext p q (suc i) n (λ j l k. h j (omega arith) (omega arith)))
+
+-- two changes that agree on what stands at the place
+pub place-agree : {A : Type 0} (i : ℕ) (r q : A → A) (t : List A) (d : A) → (i < length t → r (getD t i d) ≡ q (getD t i d)) → onPlace i r t ≡ onPlace i q t
+place-agree i r q [] d h = refl
+place-agree zero r q (x ∷ t) d h = ap {B = List _} (λ y. y ∷ t) (h (omega arith))
+place-agree (suc i) r q (x ∷ t) d h = ap {B = List _} (λ l. x ∷ l) (place-agree i r q t d (λ l. h (omega arith)))
+
+-- ---- a list that becomes another place by place
+
+pub seam-next : {A : Type 0} (a b : List A) (i : ℕ) (d : A) → i < length a → i < length b
+    → set (take i a ++ drop i b) i (getD a i d) ≡ take (i + 1) a ++ drop (i + 1) b
+seam-next a b i d h k =
+    ap (λ l. set (take i a ++ l) i (getD a i d)) (drop-cons b i d k)
+    ∙ set-at (take i a) (getD b i d) (drop (suc i) b) (getD a i d) i (length-take-le i a (omega arith))
+    ∙ sym (append-snoc (take i a) (getD a i d) (drop (suc i) b))
+    ∙ sym (ap (λ l. l ++ drop (suc i) b) (take-suc a i d h))
+    ∙ sym (ap (λ (n : ℕ). take n a ++ drop n b) (add-one i))
+
+-- all of it
+pub seam-end : {A : Type 0} (a b : List A) (i : ℕ) → length a ≤ i → length b ≤ i → take i a ++ drop i b ≡ a
+seam-end a b i h k = ap₂ {C = List _} (λ x y. x ++ y) (take-all i a h) (drop-of-length-le b k) ∙ append-nil a
+
+-- what is made of a range, by its places
+pub getD-map-range : {B : Type 0} (f : ℕ → B) (a k i : ℕ) (d : B) → i < k → getD (map f (range a k)) i d ≡ f (a + i)
+getD-map-range f a zero i d h = absurd (omega arith)
+getD-map-range f a (suc k) zero d h = ap f (omega arith)
+getD-map-range f a (suc k) (suc i) d h = getD-map-range f (suc a) k i d (omega arith) ∙ ap f (omega arith)

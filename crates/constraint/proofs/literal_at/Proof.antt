@@ -1,5 +1,5 @@
 -- `literal_at` is a literal of a clause. Assumes nothing.
-use mathlib.Core.Path.{_≡_, sym, ap, _∙_}
+use mathlib.Core.Path.{sym, ap, _∙_}
 use mathlib.Core.List.{[]}
 use lib.ListN.{getD}
 use Rattle.model.specs.declared.Literal.the-variants.{Pos}

@@ -1,5 +1,5 @@
 -- `literal_count` is the size of a clause. Assumes nothing.
-use mathlib.Core.Path.{_≡_, sym, ap, _∙_}
+use mathlib.Core.Path.{sym, ap, _∙_}
 use mathlib.Core.List.{[]}
 use lib.ListN.{length, getD}
 use Rattle.constraint.proofs.Table.{of-union, of-short}

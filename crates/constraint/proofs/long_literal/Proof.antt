@@ -1,9 +1,5 @@
 -- `long_literal` is a literal of the clause of all members. Assumes nothing.
-use mathlib.Core.Path.{_≡_, sym, ap, _∙_}
-use mathlib.Core.List.{[]}
-use lib.ListN.{getD}
-use Rattle.model.specs.declared.Literal.the-variants.{Pos, Neg}
-use Rattle.model.specs.Clauses.{unionClauses}
+use mathlib.Core.Path.{sym}
 use Rattle.constraint.proofs.Union.{long-below, long-last, long-past}
 use native.Mathlib.Omega.{arith}
 use borrow.Author.Needs.{needs}

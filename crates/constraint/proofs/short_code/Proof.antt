@@ -1,5 +1,4 @@
 -- `short_code` reads the rows of codes 1 to 5: each place is computed. Assumes nothing.
-use Prim.Native.Nat.{ℕ}
 use mathlib.Core.List.{[], _∷_}
 use Rattle.model.specs.Clauses.{shortClauses}
 use Rattle.constraint.specs.Coded.{codes}

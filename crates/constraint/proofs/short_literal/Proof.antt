@@ -1,6 +1,5 @@
 -- `short_literal` is a literal of a clause of the codes below 6. Assumes nothing.
-use mathlib.Core.Path.{_≡_, sym, ap, _∙_}
-use mathlib.Core.List.{[]}
+use mathlib.Core.Path.{sym, ap}
 use lib.ListN.{getD}
 use Rattle.model.specs.declared.Literal.the-variants.{Pos}
 use Rattle.constraint.proofs.Table.{past-clause, past-literal, codes-even, codes-odd}

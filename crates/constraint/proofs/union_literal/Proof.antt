@@ -1,9 +1,7 @@
 -- `union_literal` is a literal of a clause of code 6. Assumes nothing.
-use mathlib.Core.Path.{_≡_, sym, ap, _∙_}
-use mathlib.Core.List.{[]}
+use mathlib.Core.Path.{sym, ap}
 use lib.ListN.{getD}
-use Rattle.model.specs.declared.Literal.the-variants.{Pos, Neg}
-use Rattle.model.specs.Clauses.{unionClauses}
+use Rattle.model.specs.declared.Literal.the-variants.{Pos}
 use Rattle.constraint.proofs.Union.{past-pairs, pair-first, pair-rest}
 use borrow.Author.Needs.{needs}
 use Rattle.constraint.proofs.union_literal.Statement.{statement}

@@ -1,8 +1,6 @@
 -- `union_size` is the size of a clause of code 6. Assumes nothing.
-use mathlib.Core.Path.{_≡_, sym, ap, _∙_}
-use mathlib.Core.List.{[]}
-use lib.ListN.{length, getD}
-use Rattle.model.specs.Clauses.{unionClauses}
+use mathlib.Core.Path.{sym, ap}
+use lib.ListN.{length}
 use Rattle.constraint.proofs.Union.{long-size, pair, past-pairs}
 use borrow.Author.Needs.{needs}
 use Rattle.constraint.proofs.union_size.Statement.{statement}

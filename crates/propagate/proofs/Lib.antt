@@ -1,0 +1,4 @@
+pub mod Arrays
+pub mod Loops
+pub mod Members
+pub mod Passes

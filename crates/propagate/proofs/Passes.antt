@@ -1,0 +1,399 @@
+-- Laws of a pass over the whole arrays and over the groups of a model, and of the passes made. Assumes nothing.
+use mathlib.Core.Path.{_≡_, refl, sym, ap, ap₂, _∙_, subst}
+use Prim.Native.Nat.{ℕ, zero, suc, _+_, _-_, _*_, _≤_, _<_}
+use native.Mathlib.Nat.{sub-zero, mul-le-mul-right}
+use native.Mathlib.Numerals.{add-one}
+use native.Mathlib.Omega.{arith}
+use native.Mathlib.Decide.{decLt}
+use mathlib.Core.Bool.{Bool, true, false, cond, not, _&&_, _||_}
+use mathlib.Core.List.{List, [], _∷_, _++_, map}
+use lib.Dec.{T, eqb, leb, leb→le, le→leb, ltb→lt}
+use lib.ListN.{length, getD, take, drop, length-take, take-append-drop, List·getD-append, List·getD-eq-default}
+use lib.Seq.{take-at, length-take-le, getD-take}
+use Rattle.model.specs.declared.Literal.{Literal}
+use Rattle.model.specs.declared.Literal.the-variants.{Pos, Neg}
+use Rattle.model.specs.declared.Group.{Group}
+use Rattle.model.specs.declared.Constraint.{Constraint}
+use Rattle.model.specs.declared.Model.{Model}
+use Rattle.model.specs.declared.Propagated.{Propagated}
+use Rattle.model.specs.Lists.{every, range, onPlace, between, distinct}
+use Rattle.model.specs.Limits.{limits}
+use Rattle.model.specs.Words.{full}
+use Rattle.model.specs.Clauses.{memberCount, memberClauses, ofGroup, groupsOf, clausesOf}
+use Rattle.model.specs.Model.{zeroGroup, groupAt, withTable, tableOf, constraintsOf, codeInRange, constraintInRange, inRange}
+use Rattle.model.specs.Propagate.{groupRule, groupRuleAt, falseIn, allFalse, fixedWith, possibleWithout, madeTrue, literalRule, run, clauseRules, clauseRule, constraintRule, rules, pass, consistent, sameTable, Outcome, contradiction, fixpoint, afterPass, iterate, outcome, refusedPropagation, propagatedAs, propagated, isFixpoint}
+use Rattle.model.proofs.Lists.{T-true, true-T, All, all-append, all-map, every-getD, and-left, and-right, and-both, place-append, place-length}
+use Rattle.propagation_laws.proofs.Ranges.{constraint-code, ModelRange, model-range}
+use Rattle.propagate.specs.Flat.{zipped, Whole, Acts, settled}
+use Rattle.propagate.proofs.Members.{memberBelow, members-below}
+
+-- ---- the rules of a pass, on all places
+
+pub run-append : {X : Type 0} (a b : List (X → X)) (x : X) → run (a ++ b) x ≡ run b (run a x)
+run-append [] b x = refl
+run-append (r ∷ a) b x = run-append a b (r x)
+
+groups-length : (a k : ℕ) (t : List Group) → length (run (map groupRuleAt (range a k)) t) ≡ length t
+unfolding groupRuleAt
+groups-length a zero t = refl
+groups-length a (suc k) t = groups-length (suc a) k (groupRuleAt a t) ∙ place-length (a - 1) groupRule t
+
+pub pass-made : (n s : ℕ) (cs : List Constraint) (f p l h f₁ p₁ l₁ h₁ f₂ p₂ : List ℕ) → Whole (zipped f p l h)
+    → zipped f₁ p₁ l₁ h₁ ≡ run (map groupRuleAt (range 1 s)) (zipped f p l h) → Acts (run (map (constraintRule n) cs)) f₁ p₁ f₂ p₂
+    → Whole (zipped f₂ p₂ l₁ h₁) × (zipped f₂ p₂ l₁ h₁ ≡ run (rules n s cs) (zipped f p l h))
+unfolding rules
+pass-made n s cs f p l h f₁ p₁ l₁ h₁ f₂ p₂ w e a =
+    let b = a l₁ h₁ (ap length e ∙ groups-length 1 s (zipped f p l h) ∙ w) in
+    (b .0, b .1 ∙ ap (run (map (constraintRule n) cs)) e ∙ sym (run-append (map groupRuleAt (range 1 s)) (map (constraintRule n) cs) (zipped f p l h)))
+
+-- ---- a rule of the first s places leaves what follows them
+
+module _ (s : ℕ) where
+  pub record Local (r : List Group → List Group) : Type 0 where
+    pub on : (t u : List Group) → length t ≡ s → (r (t ++ u) ≡ r t ++ u) × (length (r t) ≡ s)
+
+  local-run : (rs : List (List Group → List Group)) → All Local rs → Local (run rs)
+  local-run [] h = record { on = λ t u e. (refl, e) }
+  local-run (r ∷ rs) h = record {
+    on = λ t u e.
+        let a = h .0 .on t u e in
+        let b = local-run rs (h .1) .on (r t) u (a .1) in
+        (ap (run rs) (a .0) ∙ b .0, b .1);
+  }
+
+  local-place : (i : ℕ) (r : Group → Group) → i < s → Local (onPlace i r)
+  local-place i r h = record { on = λ t u e. (place-append i r t u (omega arith), place-length i r t ∙ e) }
+
+  abbrev Inside : Literal → Type 0
+  Inside (Pos g) = g - 1 < s
+  Inside (Neg g) = g - 1 < s
+
+  group-inside : (t u : List Group) (g : ℕ) → length t ≡ s → g - 1 < s → groupAt (t ++ u) g ≡ groupAt t g
+  unfolding groupAt
+  group-inside t u g e h = List·getD-append t u zeroGroup (g - 1) (omega arith)
+
+  false-inside : (t u : List Group) (w : ℕ) (l : Literal) → length t ≡ s → Inside l → falseIn (t ++ u) w l ≡ falseIn t w l
+  unfolding falseIn
+  false-inside t u w (Pos g) e h = rw (group-inside t u g e h)
+  false-inside t u w (Neg g) e h = rw (group-inside t u g e h)
+
+  all-false-inside : (t u : List Group) (w : ℕ) (ls : List Literal) → length t ≡ s → All Inside ls → allFalse (t ++ u) w ls ≡ allFalse t w ls
+  unfolding allFalse
+  all-false-inside t u w [] e h = refl
+  all-false-inside t u w (l ∷ ls) e h =
+      ap (λ (x : ℕ). allFalse (t ++ u) x ls) (false-inside t u w l e (h .0)) ∙ all-false-inside t u (falseIn t w l) ls e (h .1)
+
+  local-made : (l : Literal) (w : ℕ) → Inside l → Local (madeTrue l w)
+  unfolding madeTrue
+  local-made (Pos g) w h = local-place (g - 1) (fixedWith w) h
+  local-made (Neg g) w h = local-place (g - 1) (possibleWithout w) h
+
+  local-literal : (n : ℕ) (l : Literal) (others : List Literal) → Inside l → All Inside others → Local (literalRule n l others)
+  unfolding literalRule
+  local-literal n l others h k = record {
+    on = λ t u e.
+        let a = local-made l (allFalse t (full n) others) h .on t u e in
+        (ap (λ (w : ℕ). madeTrue l w (t ++ u)) (all-false-inside t u (full n) others e k) ∙ a .0, a .1);
+  }
+
+  local-literals : (n : ℕ) (before after : List Literal) → All Inside before → All Inside after → All Local (clauseRules n before after)
+  unfolding clauseRules
+  local-literals n before [] h k = tt
+  local-literals n before (l ∷ after) h k = (
+    local-literal n l (before ++ after) (k .0) (all-append Inside before after h (k .1)),
+    local-literals n (before ++ (l ∷ [])) after (all-append Inside before (l ∷ []) h (k .0, tt)) (k .1),
+  )
+
+  local-clause : (n : ℕ) (c : List Literal) → All Inside c → Local (clauseRule n c)
+  unfolding clauseRule
+  local-clause n c h = local-run (clauseRules n [] c) (local-literals n [] c tt h)
+
+  local-constraint : (n : ℕ) (c : Constraint) → All (All Inside) (clausesOf c) → Local (constraintRule n c)
+  unfolding constraintRule
+  local-constraint n c h = local-run (map (clauseRule n) (clausesOf c)) (all-map Local (clauseRule n) (clausesOf c) (each (clausesOf c) h))
+    where
+      each : (cs : List (List Literal)) → All (All Inside) cs → All (λ x. Local (clauseRule n x)) cs
+      each [] h = tt
+      each (x ∷ cs) h = (local-clause n x (h .0), each cs (h .1))
+
+-- ---- an in-range constraint names the first s places
+
+module _ (s : ℕ) (some : 1 ≤ s) (c : Constraint) (r : T (constraintInRange s c)) where
+  ids : List ℕ
+  ids = c .groups
+
+  mc : ℕ
+  mc = memberCount (c .code) (c .count)
+
+  member-inside : (m : ℕ) → m < mc → getD ids m 0 - 1 < s
+  unfolding constraintInRange groupsOf ids mc
+  member-inside m h = go (decLt m (length ids))
+    where
+      ok : T (every (between 1 s) (take mc ids))
+      ok = and-right (codeInRange (c .code) (c .count)) (every (between 1 s) (take mc ids))
+          (and-left (codeInRange (c .code) (c .count) && every (between 1 s) (take mc ids)) (distinct (take mc ids)) r)
+
+      go : Dec (m < length ids) → getD ids m 0 - 1 < s
+      go (yes l) =
+          let x = getD (take mc ids) m 0 in
+          let t = every-getD (between 1 s) (take mc ids) 0 m ok (omega (arith, length-take mc ids)) in
+          omega (arith, getD-take mc ids m 0 h, leb→le x s (and-right (leb 1 x) (leb x s) t))
+      go (no f) =
+          let l : length ids ≤ m = omega arith in
+          omega (arith, List·getD-eq-default ids 0 l)
+
+  literal-inside : (l : Literal) → T (memberBelow mc l) → Inside s (ofGroup ids l)
+  unfolding ofGroup
+  literal-inside (Pos m) t = member-inside m (ltb→lt m mc t)
+  literal-inside (Neg m) t = member-inside m (ltb→lt m mc t)
+
+  clauses-inside : (cs : List (List Literal)) → T (every (every (memberBelow mc)) cs) → All (All (Inside s)) (map (map (ofGroup ids)) cs)
+  clauses-inside [] t = tt
+  clauses-inside (x ∷ cs) t =
+      let B = memberBelow mc in
+      (all-map (Inside s) (ofGroup ids) x (literals x (and-left (every B x) (every (every B) cs) t)), clauses-inside cs (and-right (every B x) (every (every B) cs) t))
+    where
+      literals : (ls : List Literal) → T (every (memberBelow mc) ls) → All (λ l. Inside s (ofGroup ids l)) ls
+      literals [] u = tt
+      literals (l ∷ ls) u =
+          (literal-inside l (and-left (memberBelow mc l) (every (memberBelow mc) ls) u), literals ls (and-right (memberBelow mc l) (every (memberBelow mc) ls) u))
+
+  in-range-local : (n : ℕ) → Local s (constraintRule n c)
+  unfolding clausesOf ids mc
+  in-range-local n =
+      local-constraint s n c (clauses-inside (memberClauses (c .code) (c .count)) (members-below (c .count) (c .code) (code-is (constraint-code s c r))))
+    where
+      code-is : T (codeInRange (c .code) (c .count)) → T (between 1 6 (c .code))
+      code-is t = unfold codeInRange in and-left (between 1 6 (c .code)) (not (eqb (c .code) 6) || between 2 (limits .members - 1) (c .count)) t
+
+-- ---- a pass of the model is that of the arrays, at the first s places
+
+module _ (m : Model) (t : T (inRange m)) where
+  R : ModelRange m
+  R = model-range m t
+
+  pub s-some : 1 ≤ m .s
+  s-some = leb→le 1 (m .s) (and-left (leb 1 (m .s)) (leb (m .s) (limits .groups)) (R .groups))
+
+  pub s-few : m .s ≤ limits .groups
+  s-few = leb→le (m .s) (limits .groups) (and-right (leb 1 (m .s)) (leb (m .s) (limits .groups)) (R .groups))
+
+  pub n-few : m .n ≤ limits .entrants
+  n-few = leb→le (m .n) (limits .entrants) (and-right (leb 1 (m .n)) (leb (m .n) (limits .entrants)) (R .entrants))
+
+  pub c-few : m .c ≤ limits .constraints
+  c-few = leb→le (m .c) (limits .constraints) (R .constraints)
+
+  groups-local : (a k : ℕ) → 1 ≤ a → a + k ≤ m .s + 1 → All (Local (m .s)) (map groupRuleAt (range a k))
+  unfolding groupRuleAt
+  groups-local a zero h l = tt
+  groups-local a (suc k) h l = (local-place (m .s) (a - 1) groupRule (omega arith), groups-local (suc a) k (omega arith) (omega arith))
+
+  constraints-local : (cs : List Constraint) → T (every (constraintInRange (m .s)) cs) → All (Local (m .s)) (map (constraintRule (m .n)) cs)
+  constraints-local [] u = tt
+  constraints-local (c ∷ cs) u =
+      let a = constraintInRange (m .s) c in
+      let b = every (constraintInRange (m .s)) cs in
+      (in-range-local (m .s) s-some c (and-left a b u) (m .n), constraints-local cs (and-right a b u))
+
+  pass-local : Local (m .s) (pass m)
+  unfolding pass rules
+  pass-local = local-run (m .s) (rules (m .n) (m .s) (constraintsOf m))
+      (all-append (Local (m .s)) (map groupRuleAt (range 1 (m .s))) (map (constraintRule (m .n)) (constraintsOf m)) (groups-local 1 (m .s) (omega arith) (omega arith))
+      (constraints-local (constraintsOf m) (R .lines)))
+
+  pub pass-first : (a b : List Group) → Whole a → b ≡ run (rules (m .n) (m .s) (take (m .c) (m .constraints))) a → take (m .s) b ≡ pass m (take (m .s) a)
+  unfolding pass constraintsOf
+  pass-first a b w e =
+      let x = take (m .s) a in
+      let y = drop (m .s) a in
+      let l = pass-local .on x y (length-take-le (m .s) a (omega (arith, s-few))) in
+      ap (take (m .s)) (e ∙ ap (pass m) (sym (take-append-drop (m .s) a)) ∙ l .0) ∙ take-at (pass m x) y (m .s) (l .1)
+
+  -- what the code asks of the constraints
+  pub lines-stand : T (every (constraintInRange (limits .groups)) (take (m .c) (m .constraints)))
+  unfolding constraintsOf
+  lines-stand = go (take (m .c) (m .constraints)) (R .lines)
+    where
+      wide : (gs : List ℕ) → T (every (between 1 (m .s)) gs) → T (every (between 1 (limits .groups)) gs)
+      wide [] u = tt
+      wide (g ∷ gs) u =
+          let a = between 1 (m .s) g in
+          let b = every (between 1 (m .s)) gs in
+          let v = and-left a b u in
+          and-both (between 1 (limits .groups) g) (every (between 1 (limits .groups)) gs)
+          (and-both (leb 1 g) (leb g (limits .groups)) (and-left (leb 1 g) (leb g (m .s)) v)
+          (le→leb g (limits .groups) (omega (arith, s-few, leb→le g (m .s) (and-right (leb 1 g) (leb g (m .s)) v)))))
+          (wide gs (and-right a b u))
+
+      one : (c : Constraint) → T (constraintInRange (m .s) c) → T (constraintInRange (limits .groups) c)
+      one c u = unfold constraintInRange in (
+          let k = codeInRange (c .code) (c .count) in
+          let a = every (between 1 (m .s)) (groupsOf c) in
+          let d = distinct (groupsOf c) in
+          let ka = and-left (k && a) d u in
+          and-both (k && every (between 1 (limits .groups)) (groupsOf c)) d
+          (and-both k (every (between 1 (limits .groups)) (groupsOf c)) (and-left k a ka) (wide (groupsOf c) (and-right k a ka))) (and-right (k && a) d u))
+
+      go : (cs : List Constraint) → T (every (constraintInRange (m .s)) cs) → T (every (constraintInRange (limits .groups)) cs)
+      go [] u = tt
+      go (c ∷ cs) u =
+          let a = constraintInRange (m .s) c in
+          let b = every (constraintInRange (m .s)) cs in
+          and-both (constraintInRange (limits .groups) c) (every (constraintInRange (limits .groups)) cs) (one c (and-left a b u)) (go cs (and-right a b u))
+
+-- ---- passes until one changes nothing: k are made, the table is t
+
+abbrev pub Left : Model → ℕ → List Group → Outcome (List Group)
+Left m k t = iterate consistent sameTable (pass m) (2 * m .s * m .n + 1 - k) k t
+
+pub left-start : (m : Model) → outcome m ≡ Left m 0 (tableOf m)
+unfolding outcome
+left-start m = ap (λ (f : ℕ). iterate consistent sameTable (pass m) f 0 (tableOf m)) (sym (sub-zero (2 * m .s * m .n + 1)))
+
+module _ (m : Model) (k : ℕ) (t u : List Group) (e : u ≡ pass m t) (some : k < 2 * m .s * m .n + 1) where
+  once : Left m k t ≡ afterPass (consistent u) (sameTable u t) k u (Left m (k + 1) u)
+  unfolding iterate
+  once =
+      ap (λ (f : ℕ). iterate consistent sameTable (pass m) f k t) less-by-one
+      ∙ sym (ap (λ y. afterPass (consistent y) (sameTable y t) k y (iterate consistent sameTable (pass m) (2 * m .s * m .n + 1 - (k + 1)) (suc k) y)) e)
+      ∙ ap (λ (j : ℕ). afterPass (consistent u) (sameTable u t) k u (iterate consistent sameTable (pass m) (2 * m .s * m .n + 1 - (k + 1)) j u)) (sym (add-one k))
+    where
+      less-by-one : 2 * m .s * m .n + 1 - k ≡ suc (2 * m .s * m .n + 1 - (k + 1))
+      less-by-one = omega arith
+
+  pub left-refused : consistent u ≡ false → Left m k t ≡ contradiction
+  left-refused a = once ∙ rw a
+
+  pub left-done : consistent u ≡ true → sameTable u t ≡ true → Left m k t ≡ fixpoint (k + 1) u
+  left-done a b = once ∙ rw (a, b, add-one k)
+
+  pub left-next : consistent u ≡ true → sameTable u t ≡ false → Left m k t ≡ Left m (k + 1) u
+  left-next a b = once ∙ rw (a, b)
+
+pub left-none : (m : Model) (k : ℕ) (t : List Group) → 2 * m .s * m .n + 1 ≤ k → Left m k t ≡ contradiction
+unfolding iterate
+left-none m k t h =
+    let z : 2 * m .s * m .n + 1 - k ≡ 0 = omega arith in
+    ap (λ (f : ℕ). iterate consistent sameTable (pass m) f k t) z
+
+-- ---- the answer
+
+pub propagated-in : (m : Model) → T (inRange m) → propagated m ≡ propagatedAs m (outcome m)
+unfolding propagated
+propagated-in m t = rw (T-true (inRange m) t)
+
+pub propagated-out : (m : Model) → inRange m ≡ false → propagated m ≡ refusedPropagation 20 m
+unfolding propagated
+propagated-out m e = rw e
+
+-- "it is at most 2·s·n + 1"
+abbrev made : {X : Type 0} → Outcome X → ℕ
+made contradiction = 0
+made (fixpoint k x) = k
+
+made-few : {X : Type 0} (ok : X → Bool) (same : X → X → Bool) (next : X → X) (fuel k : ℕ) (x : X) → made (iterate ok same next fuel k x) ≤ k + fuel
+unfolding iterate
+made-few ok same next zero k x = omega arith
+made-few ok same next (suc fuel) k x = go (ok (next x)) (same (next x) x) (iterate ok same next fuel (suc k) (next x)) (made-few ok same next fuel (suc k) (next x))
+  where
+    go : (a b : Bool) (o : Outcome _) → made o ≤ suc k + fuel → made (afterPass a b k (next x) o) ≤ k + suc fuel
+    go false b o h = omega arith
+    go true true o h = omega arith
+    go true false o h = omega arith
+
+pub passes-few : (m : Model) → propagated m .passes ≤ 2 * m .s * m .n + 1
+unfolding propagated refusedPropagation outcome
+passes-few m = go (inRange m) (outcome m) (made-few consistent sameTable (pass m) (2 * m .s * m .n + 1) 0 (tableOf m))
+  where
+    by-outcome : (o : Outcome (List Group)) → made o ≤ 0 + (2 * m .s * m .n + 1) → propagatedAs m o .passes ≤ 2 * m .s * m .n + 1
+    by-outcome contradiction h = omega arith
+    by-outcome (fixpoint k t) h = omega arith
+
+    go : (b : Bool) (o : Outcome (List Group)) → made o ≤ 0 + (2 * m .s * m .n + 1)
+        → cond b (propagatedAs m o) (refusedPropagation 20 m) .passes ≤ 2 * m .s * m .n + 1
+    go true o h = by-outcome o h
+    go false o h = omega arith
+
+pub answered : (k : ℕ) (m : Model) (t gs : List Group) → gs ≡ t ++ drop (m .s) (m .groups)
+    → _≡_ {A = Propagated} (record {
+      refusal = 0;
+      passes = k;
+      model = record { n = m .n; s = m .s; c = m .c; groups = gs; constraints = m .constraints };
+    }) (propagatedAs m (fixpoint k t))
+unfolding withTable
+answered k m t gs e = rw e
+
+-- ---- one pass, as the code makes it: a are the groups of the model in the arrays, b the groups after it
+
+module _ (m : Model) (r : Bool) (e : r ≡ inRange m) where
+  pub out-of-range : r ≡ false → inRange m ≡ false
+  out-of-range f = sym e ∙ f
+
+  pub in-range : r ≡ true → T (inRange m)
+  in-range f = true-T (inRange m) (sym e ∙ f)
+
+pub whole-read : (a gs : List Group) → Whole gs → a ≡ gs → Whole a
+whole-read a gs w e = ap length e ∙ w
+
+pub settled-out : (m : Model) → inRange m ≡ false → false ≡ settled m
+settled-out m e = rw e
+
+module _ (m : Model) (t : T (inRange m)) (a b : List Group) (w : Whole a) (e : a ≡ m .groups)
+    (p : b ≡ run (rules (m .n) (m .s) (take (m .c) (m .constraints))) a) (r : Bool) (c : r ≡ consistent (take (m .s) b)) where
+  now-is : take (m .s) a ≡ tableOf m
+  unfolding tableOf
+  now-is = ap (take (m .s)) e
+
+  next-is : take (m .s) b ≡ pass m (tableOf m)
+  next-is = pass-first m t a b w p ∙ ap (pass m) now-is
+
+  settled-is : settled m ≡ (consistent (take (m .s) b) && sameTable (take (m .s) b) (take (m .s) a))
+  unfolding isFixpoint
+  settled-is = rw (T-true (inRange m) t) (sym (ap₂ (λ x y. consistent x && sameTable x y) next-is now-is))
+
+  pub settled-contradicts : r ≡ false → false ≡ settled m
+  settled-contradicts f = sym (settled-is ∙ rw (sym c ∙ f))
+
+  pub settled-same : r ≡ true → (q : Bool) → q ≡ sameTable (take (m .s) b) (take (m .s) a) → q ≡ settled m
+  settled-same f q d = d ∙ sym (settled-is ∙ rw (sym c ∙ f))
+
+-- ---- the loop of passes: both parts of the contract
+
+abbrev Contract : Model → Propagated → Type 0
+Contract m o = (o ≡ propagated m) × (o .passes ≤ 2 * m .s * m .n + 1)
+
+contract : (m : Model) (o : Propagated) → o ≡ propagated m → Contract m o
+contract m o e = (e, subst (λ (x : Propagated). x .passes ≤ 2 * m .s * m .n + 1) (sym e) (passes-few m))
+
+pub refused-20 : (m : Model) → inRange m ≡ false → (o : Propagated) → o ≡ refusedPropagation 20 m → Contract m o
+refused-20 m f o e = contract m o (e ∙ sym (propagated-out m f))
+
+pub first-left : (m : Model) (a : List Group) → a ≡ m .groups → outcome m ≡ Left m 0 (take (m .s) a)
+first-left m a e = left-start m ∙ ap (Left m 0) (unfold tableOf in sym (ap (take (m .s)) e))
+
+pub fuel-fits : (m : Model) → T (inRange m) → 2 * m .s * m .n ≤ 16384
+fuel-fits m t =
+    let a : 2 * m .s ≤ 512 = omega (arith, s-few m t) in
+    let b : 2 * m .s * m .n ≤ 512 * m .n = mul-le-mul-right (m .n) a in
+    omega (arith, n-few m t)
+
+module _ (m : Model) (t : T (inRange m)) (k : ℕ) (a : List Group) (inv : outcome m ≡ Left m k (take (m .s) a)) where
+  ended : (x : Outcome (List Group)) → Left m k (take (m .s) a) ≡ x → (o : Propagated) → o ≡ propagatedAs m x → Contract m o
+  ended x q o e = contract m o (e ∙ sym (propagated-in m t ∙ ap (propagatedAs m) (inv ∙ q)))
+
+  pub refused-at-end : 2 * m .s * m .n + 1 ≤ k → (o : Propagated) → o ≡ refusedPropagation 21 m → Contract m o
+  refused-at-end h o e = ended contradiction (left-none m k (take (m .s) a) h) o e
+
+  module _ (b : List Group) (w : Whole a) (p : b ≡ run (rules (m .n) (m .s) (take (m .c) (m .constraints))) a) (some : k < 2 * m .s * m .n + 1)
+      (r : Bool) (c : r ≡ consistent (take (m .s) b)) where
+    pub refused-21 : r ≡ false → (o : Propagated) → o ≡ refusedPropagation 21 m → Contract m o
+    refused-21 f o e = ended contradiction (left-refused m k (take (m .s) a) (take (m .s) b) (pass-first m t a b w p) some (sym c ∙ f)) o e
+
+    module _ (f : r ≡ true) (q : Bool) (d : q ≡ sameTable (take (m .s) b) (take (m .s) a)) where
+      pub at-fixpoint : q ≡ true → (o : Propagated) → o ≡ propagatedAs m (fixpoint (k + 1) (take (m .s) b)) → Contract m o
+      at-fixpoint g o e =
+          ended (fixpoint (k + 1) (take (m .s) b)) (left-done m k (take (m .s) a) (take (m .s) b) (pass-first m t a b w p) some (sym c ∙ f) (sym d ∙ g)) o e
+
+      pub pass-more : q ≡ false → outcome m ≡ Left m (k + 1) (take (m .s) b)
+      pass-more g = inv ∙ left-next m k (take (m .s) a) (take (m .s) b) (pass-first m t a b w p) some (sym c ∙ f) (sym d ∙ g)

@@ -1,0 +1,64 @@
+-- The table of groups as four arrays, which is how the code keeps it, and what a rule does to them.
+use Prim.Native.Nat.{ℕ, _≤_, _<_}
+use mathlib.Core.Path.{_≡_}
+use mathlib.Core.Bool.{Bool, _&&_}
+use mathlib.Core.List.{List, [], _∷_}
+use lib.ListN.{length, getD}
+use Rattle.model.specs.declared.Literal.{Literal}
+use Rattle.model.specs.declared.Literal.the-variants.{Pos, Neg}
+use Rattle.model.specs.declared.Group.{Group}
+use Rattle.model.specs.declared.Constraint.{Constraint}
+use Rattle.model.specs.declared.Model.{Model}
+use Rattle.model.specs.Limits.{limits}
+use Rattle.model.specs.Clauses.{memberClauses}
+use Rattle.model.specs.Model.{inRange}
+use Rattle.model.specs.Propagate.{isFixpoint, allFalse}
+use Rattle.propagate.specs.declared.Table.{Table}
+
+abbrev pub group : ℕ → ℕ → ℕ → ℕ → Group
+group f p l h = record { fixed = f; possible = p; low = l; high = h }
+
+-- the groups that stand at each place of four lists
+unfoldable pub zipped : List ℕ → List ℕ → List ℕ → List ℕ → List Group
+zipped [] ps ls hs = []
+zipped (f ∷ fs) [] ls hs = []
+zipped (f ∷ fs) (p ∷ ps) [] hs = []
+zipped (f ∷ fs) (p ∷ ps) (l ∷ ls) [] = []
+zipped (f ∷ fs) (p ∷ ps) (l ∷ ls) (h ∷ hs) = group f p l h ∷ zipped fs ps ls hs
+
+unfoldable pub groupsIn : Table → List Group
+groupsIn t = zipped (t .fixed) (t .possible) (t .low) (t .high)
+
+-- every place is there
+abbrev pub Whole : List Group → Type 0
+Whole t = length t ≡ limits .groups
+
+-- the sets go from one pair of arrays to another as the rule says, whatever the limits low and high are
+abbrev pub Acts : (List Group → List Group) → List ℕ → List ℕ → List ℕ → List ℕ → Type 0
+Acts r f p f₁ p₁ = (l h : List ℕ) → Whole (zipped f p l h) → Whole (zipped f₁ p₁ l h) × (zipped f₁ p₁ l h ≡ r (zipped f p l h))
+
+-- the word is the entrants of w for whom the literals are settled false
+abbrev pub AllFalse : ℕ → List ℕ → List ℕ → ℕ → List Literal → Type 0
+AllFalse r f p w ls = (l h : List ℕ) → Whole (zipped f p l h) → r ≡ allFalse (zipped f p l h) w ls
+
+-- member m of a constraint is there, and is a place of the table
+abbrev pub Stands : List ℕ → ℕ → Type 0
+Stands ids m = (m < limits .members) × ((1 ≤ getD ids m 0) × (getD ids m 0 ≤ limits .groups))
+
+abbrev pub LiteralStands : List ℕ → Literal → Type 0
+LiteralStands ids (Pos m) = Stands ids m
+LiteralStands ids (Neg m) = Stands ids m
+
+-- the literals of a clause of members, and that all of them stand
+abbrev pub clauseOf : ℕ → ℕ → ℕ → List Literal
+clauseOf code k j = getD (memberClauses code k) j []
+
+abbrev pub ClauseStands : List ℕ → List Literal → Type 0
+ClauseStands ids c = (i : ℕ) → i < length c → LiteralStands ids (getD c i (Pos 0))
+
+abbrev pub line : ℕ → ℕ → List ℕ → Constraint
+line code k ids = record { code = code; count = k; groups = ids }
+
+-- what the block writer and the closing ask: a model out of range has no fixpoint to be at
+abbrev pub settled : Model → Bool
+settled m = inRange m && isFixpoint m
