@@ -38,7 +38,7 @@ use Rattle.encoding_laws.proofs.Decimal.{digits-5, digits-7}
 
 -- ---- a totalizer of at most 32 leaves
 
-small-tree : (m : ℕ) → m ≤ 32 → (treeOutputCount m ≤ 160) × (treeClauseCount m ≤ 1312)
+pub small-tree : (m : ℕ) → m ≤ 32 → (treeOutputCount m ≤ 160) × (treeClauseCount m ≤ 1312)
 unfolding treeOutputCount outputCountIn treeClauseCount clauseCountIn
 small-tree m h = (
   leb→le (treeOutputCount m) 160 (every-range (λ k. leb (treeOutputCount k) 160) 0 33 tt m (omega arith) (omega arith)),

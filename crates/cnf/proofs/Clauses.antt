@@ -1,0 +1,76 @@
+-- Laws of the text of a clause of which some terms are known. Assumes nothing.
+use mathlib.Core.Path.{_≡_, refl, ap, sym, _∙_}
+use mathlib.Core.List.{List, [], _∷_, _++_, append-assoc, append-nil}
+use mathlib.Core.Bool.{Bool, true, false, _||_}
+use Prim.Native.Nat.{ℕ, zero, suc, _+_, _≤_, _<_}
+use lib.ListN.{length, length-append, take, drop, getD, take-append-drop}
+use lib.Seq.{take-suc}
+use native.Mathlib.Omega.{arith}
+use native.Mathlib.Numerals.{add-one}
+use Rattle.model.specs.declared.Literal.{Literal}
+use Rattle.model.specs.declared.Literal.the-variants.{Pos, Neg}
+use Rattle.model.specs.declared.Term.{Term}
+use Rattle.model.specs.declared.Term.the-variants.{Holds, Fails, Open}
+use Rattle.model.specs.Lists.{any, each}
+use Rattle.model.specs.Totalizer.{holds, literals, keep}
+use Rattle.model.specs.Text.{decimal, literalText, clauseText}
+use Rattle.model.proofs.Lists.{each-append, any-append}
+use Rattle.cnf.specs.Parts.{spaced, termText, keptText}
+
+pub spaced-length : (v : ℕ) → length (spaced v) ≡ length (decimal v) + 1
+spaced-length v = length-append (decimal v) (32 ∷ [])
+
+pub pos-text : (l : Literal) (v : ℕ) → l ≡ Pos v → literalText l ≡ spaced v
+unfolding literalText
+pos-text l v e = ap literalText e
+
+pub neg-text : (l : Literal) (v : ℕ) → l ≡ Neg v → literalText l ≡ (45 ∷ []) ++ spaced v
+unfolding literalText
+neg-text l v e = ap literalText e
+
+pub neg-length : (l : Literal) (v : ℕ) → l ≡ Neg v → length (literalText l) ≡ length (spaced v) + 1
+neg-length l v e = ap length (neg-text l v e) ∙ omega arith
+
+-- ---- the first terms, one more at a time
+
+pub next-take : {A : Type 0} (ts : List A) (i : ℕ) (d : A) → i < length ts → take (i + 1) ts ≡ take i ts ++ getD ts i d ∷ []
+next-take ts i d h = ap (λ (n : ℕ). take n ts) (add-one i) ∙ take-suc ts i d h
+
+pub terms-next : (ts : List Term) (i : ℕ) (d : Term) → i < length ts
+    → each termText (take (i + 1) ts) ≡ each termText (take i ts) ++ termText (getD ts i d)
+terms-next ts i d h =
+    ap (each termText) (next-take ts i d h)
+    ∙ each-append termText (take i ts) (getD ts i d ∷ [])
+    ∙ ap (λ (l : List ℕ). each termText (take i ts) ++ l) (append-nil (termText (getD ts i d)))
+
+pub terms-room : (ts : List Term) (i k : ℕ) (d : Term) → i < k → i < length ts
+    → length (each termText (take i ts)) + length (termText (getD ts i d)) ≤ length (each termText (take k ts))
+terms-room [] i k d h n = absurd (omega arith)
+terms-room (t ∷ ts) i zero d h n = absurd (omega arith)
+terms-room (t ∷ ts) zero (suc k) d h n = rw length-append (omega arith)
+terms-room (t ∷ ts) (suc i) (suc k) d h n =
+    rw (length-append (termText t) (each termText (take i ts)), length-append (termText t) (each termText (take k ts)))
+    (omega (arith, terms-room ts i k d (omega arith) (omega arith)))
+
+-- ---- a clause that is kept, and one that is left out
+
+terms-text : (ts : List Term) → each literalText (literals ts) ≡ each termText ts
+terms-text [] = refl
+terms-text (Holds ∷ ts) = terms-text ts
+terms-text (Fails ∷ ts) = terms-text ts
+terms-text (Open l ∷ ts) = ap (λ (t : List ℕ). literalText l ++ t) (terms-text ts)
+
+pub live : (ts : List Term) → any holds ts ≡ false → keptText ts ≡ (each termText ts ++ 48 ∷ []) ++ 10 ∷ []
+unfolding keptText keep clauseText
+live ts p =
+    rw p
+    (append-nil (each literalText (literals ts) ++ 48 ∷ 10 ∷ [])
+    ∙ ap (λ (l : List ℕ). l ++ 48 ∷ 10 ∷ []) (terms-text ts)
+    ∙ sym (append-assoc (each termText ts) (48 ∷ []) (10 ∷ [])))
+
+pub live-length : (ts : List Term) → any holds ts ≡ false → length (keptText ts) ≡ length (each termText ts) + 2
+live-length ts p = rw (live ts p) (simp length-append (omega arith))
+
+pub dead : (ts : List Term) → any holds ts ≡ true → keptText ts ≡ []
+unfolding keptText keep
+dead ts p = rw p

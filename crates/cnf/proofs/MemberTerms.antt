@@ -1,0 +1,172 @@
+-- Laws of a constraint's terms: members, literals and the arrays that hold them. Assumes nothing.
+use mathlib.Core.Path.{_≡_, refl, sym, ap, ap₂, _∙_}
+use mathlib.Core.Bool.{Bool, true, false, cond}
+use mathlib.Core.List.{List, [], _∷_, _++_, map}
+use Prim.Native.Nat.{ℕ, zero, suc, _+_, _-_, _*_, _/_, _%_, _^_, _≤_, _<_}
+use native.Mathlib.Nat.{one-mul, mod-lt, zero-add}
+use native.Mathlib.Numerals.{add-one}
+use native.Mathlib.Omega.{arith}
+use borrow.Author.Tests.{eq-eqb, ne-eqb}
+use lib.Dec.{T, ltb, ltb→lt}
+use lib.Bits.{bitAnd, bitXor}
+use lib.Count.{ones, ones-le}
+use lib.Pow.{shl-exact, pow-pos}
+use lib.ListN.{length, getD, set, take, length-take}
+use lib.Seq.{getD-take}
+use Rattle.model.specs.declared.Literal.{Literal}
+use Rattle.model.specs.declared.Literal.the-variants.{Pos, Neg}
+use Rattle.model.specs.declared.Term.{Term}
+use Rattle.model.specs.declared.Term.the-variants.{Holds, Fails, Open}
+use Rattle.model.specs.declared.Group.{Group}
+use Rattle.encoding_laws.proofs.Members.{between-le}
+use Rattle.model.specs.Lists.{any, every, between, each, range, total}
+use Rattle.model.specs.Clauses.{memberClauses}
+use Rattle.model.specs.Totalizer.{oppositeTerm, holds, keep}
+use Rattle.model.specs.Model.{zeroGroup, groupAt}
+use Rattle.model.specs.Cnf.{openCount, firstVariable}
+use Rattle.model.specs.Words.{less, size, bit, has}
+use Rattle.model.specs.Assignment.{variable}
+use Rattle.model.proofs.Words.{size-ones}
+use Rattle.model.proofs.Lists.{every-getD, each-range-ext, range-last, total-append}
+use Rattle.cnf.specs.declared.Member.{Member}
+use Rattle.cnf.specs.Parts.{keptText, memberOf, memberTerm, smallMember, literalTerm, clauseOf, memberClauseText, entrantText, keptCount, entrantCount, Steadies, Within}
+use Rattle.cnf.proofs.Clauses.{next-take}
+use Rattle.cnf.proofs.Groups.{steady-at}
+
+-- ---- an array that is filled from the front
+
+module _ {B : Type 0} where
+  take-set-next : (r : List B) (i : ℕ) (x : B) → i < length r → take (i + 1) (set r i x) ≡ take i r ++ x ∷ []
+  take-set-next [] i x h = absurd (omega arith)
+  take-set-next (y ∷ r) zero x h = refl
+  take-set-next (y ∷ r) (suc i) x h =
+      ap (λ (n : ℕ). take n (set (y ∷ r) (suc i) x)) (add-one (suc i))
+      ∙ ap {B = List B} (λ l. y ∷ l) (ap (λ (n : ℕ). take n (set r i x)) (sym (add-one i)) ∙ take-set-next r i x (omega arith))
+
+module _ {A B : Type 0} where
+  map-append : (f : A → B) (xs ys : List A) → map f (xs ++ ys) ≡ map f xs ++ map f ys
+  map-append f [] ys = refl
+  map-append f (x ∷ xs) ys = ap {B = List B} (λ l. f x ∷ l) (map-append f xs ys)
+
+  pub fill-next : (f : A → B) (xs : List A) (r : List B) (i : ℕ) (d : A) (x : B) → i < length xs → i < length r
+      → take i r ≡ map f (take i xs) → x ≡ f (getD xs i d) → take (i + 1) (set r i x) ≡ map f (take (i + 1) xs)
+  fill-next f xs r i d x h k inv e =
+      take-set-next r i x k
+      ∙ ap₂ (λ (l m : List B). l ++ m) inv (ap {B = List B} (λ y. y ∷ []) e)
+      ∙ sym (ap (map f) (next-take xs i d h) ∙ map-append f (take i xs) (getD xs i d ∷ []))
+
+-- ---- a member's term
+
+-- `1 << e` is 2 to the e
+pub power : (e : ℕ) → e < 32 → 1 * 2 ^ e % 2 ^ 64 ≡ 2 ^ e
+power e h = shl-exact 1 e 64 (omega arith) (omega arith) ∙ one-mul (2 ^ e)
+
+module _ (m : Member) (e : ℕ) where
+  pub term-holds : m .fixed / 2 ^ e % 2 ≡ 1 → Holds ≡ memberTerm e m
+  unfolding memberTerm has bit
+  term-holds h = rw (eq-eqb (m .fixed / 2 ^ e % 2) 1 h)
+
+  pub term-fails : (m .fixed / 2 ^ e % 2 ≡ 1 → ⊥) → (m .possible / 2 ^ e % 2 ≡ 1 → ⊥) → Fails ≡ memberTerm e m
+  unfolding memberTerm has bit
+  term-fails h k = rw (ne-eqb (m .fixed / 2 ^ e % 2) 1 h, ne-eqb (m .possible / 2 ^ e % 2) 1 k)
+
+  pub term-open : (m .fixed / 2 ^ e % 2 ≡ 1 → ⊥) → m .possible / 2 ^ e % 2 ≡ 1 → (d : ℕ) → d ≡ 2 ^ e
+      → Open (Pos (m .first + ones (bitXor (m .possible) (bitAnd (m .possible) (m .fixed)) % d))) ≡ memberTerm e m
+  unfolding memberTerm has bit less
+  term-open h k d q =
+      rw (ne-eqb (m .fixed / 2 ^ e % 2) 1 h, eq-eqb (m .possible / 2 ^ e % 2) 1 k, q)
+      (ap (λ (n : ℕ). Open (Pos (m .first + n))) (sym (size-ones (bitXor (m .possible) (bitAnd (m .possible) (m .fixed)) % 2 ^ e))))
+
+pub below-few : (w e d : ℕ) → d ≡ 2 ^ e → ones (w % d) ≤ e
+below-few w e d q = rw q (ones-le e (w % 2 ^ e) (mod-lt w (pow-pos e)))
+
+pub small-at : (ms : List Member) (k i : ℕ) (d : Member) → T (every smallMember (take k ms)) → i < k → k ≤ length ms → (getD ms i d) .first < 100000
+small-at ms k i d t h l =
+    ltb→lt ((getD ms i d) .first) 100000
+    (rw (getD-take k ms i d h) at (every-getD smallMember (take k ms) d i t (omega (arith, length-take k ms))))
+
+-- ---- a clause's text
+
+pub clause-text : (ts cs : List Term) (code count j k : ℕ) → k ≡ length (clauseOf code count j)
+    → take (length (clauseOf code count j)) cs ≡ map (literalTerm ts) (clauseOf code count j) → keptText (take k cs) ≡ memberClauseText ts code count j
+unfolding memberClauseText
+clause-text ts cs code count j k e h = ap keptText (ap (λ (n : ℕ). take n cs) e ∙ h)
+
+-- ---- steady groups, fewer of them
+
+pub fewer : (t : List Group) (s k : ℕ) → Steadies (take s t) → k ≤ s → s ≤ length t → Steadies (take k t)
+fewer t s k h l n = record { at = λ i q. let q′ = q in rw (sym (getD-take k t i zeroGroup (omega (arith, length-take k t)))) at (steady-at t s i h (omega (arith, length-take k t)) n) }
+
+pub take-less : {A : Type 0} (t : List A) (k s : ℕ) → k ≤ s → take k (take s t) ≡ take k t
+take-less t zero s h = refl
+take-less [] (suc k) zero h = refl
+take-less [] (suc k) (suc s) h = refl
+take-less (x ∷ t) (suc k) zero h = absurd (omega arith)
+take-less {A} (x ∷ t) (suc k) (suc s) h = ap {B = List A} (λ l. x ∷ l) (take-less t k s (omega arith))
+
+-- group g of the first s
+pub member-is : (t : List Group) (s g free : ℕ) → 1 ≤ g → g ≤ s → free ≡ total openCount (take (g - 1) t)
+    → record { fixed = getD t (g - 1) zeroGroup .fixed; possible = getD t (g - 1) zeroGroup .possible; first = 1 + free } ≡ memberOf (take s t) g
+unfolding memberOf groupAt firstVariable
+member-is t s g free h k e =
+    rw (getD-take s t (g - 1) zeroGroup (omega arith), take-less t (g - 1) s (omega arith), e)
+
+-- ---- the terms past the first k matter to no clause
+
+pub values-map : {A B : Type 0} (f g : A → B) (d : A) (xs : List A) → ((i : ℕ) → i < length xs → f (getD xs i d) ≡ g (getD xs i d)) → map f xs ≡ map g xs
+values-map f g d [] h = refl
+values-map {A} {B} f g d (x ∷ xs) h =
+    ap₂ (λ (y : B) (ys : List B). y ∷ ys) (h 0 (omega arith)) (values-map f g d xs (λ i l. h (suc i) (omega arith)))
+
+literal-first : (ts : List Term) (k : ℕ) (l : Literal) → variable l < k → literalTerm ts l ≡ literalTerm (take k ts) l
+literal-first ts k (Pos i) h = sym (getD-take k ts i Holds h)
+literal-first ts k (Neg i) h = ap oppositeTerm (sym (getD-take k ts i Holds h))
+
+pub entrant-first : (ts us : List Term) (k code count : ℕ) → Within k code count → take k ts ≡ us → entrantText ts code count ≡ entrantText us code count
+unfolding entrantText memberClauseText
+entrant-first ts us k code count w e =
+    each-range-ext (memberClauseText ts code count) (memberClauseText us code count) 0 (length (memberClauses code count))
+    (λ j _ h. ap keptText (values-map (literalTerm ts) (literalTerm us) (Pos 0) (clauseOf code count j)
+    (λ i l. literal-first ts k (getD (clauseOf code count j) i (Pos 0)) (w .below j i (omega arith) l)
+    ∙ ap (λ (x : List Term). literalTerm x (getD (clauseOf code count j) i (Pos 0))) e)))
+
+-- ---- the groups of a constraint
+
+pub number-at : (ids : List ℕ) (s k i : ℕ) → T (every (between 1 s) (take k ids)) → i < k → k ≤ length ids → (1 ≤ getD ids i 0) × (getD ids i 0 ≤ s)
+number-at ids s k i t h l =
+    between-le 1 s (getD ids i 0) (rw (getD-take k ids i 0 h) at (every-getD (between 1 s) (take k ids) 0 i t (omega (arith, length-take k ids))))
+
+-- ---- counting the clauses that are kept
+
+module _ (ts cs : List Term) (code count j k : ℕ) (q : k ≡ length (clauseOf code count j))
+    (h : take (length (clauseOf code count j)) cs ≡ map (literalTerm ts) (clauseOf code count j)) where
+  same-terms : take k cs ≡ map (literalTerm ts) (clauseOf code count j)
+  same-terms = ap (λ (n : ℕ). take n cs) q ∙ h
+
+  pub left-out : any holds (take k cs) ≡ true → 0 ≡ keptCount ts code count j
+  unfolding keptCount keep
+  left-out e = rw (sym (ap (any holds) same-terms) ∙ e)
+
+  pub counted-once : any holds (take k cs) ≡ false → 1 ≡ keptCount ts code count j
+  unfolding keptCount keep
+  counted-once e = rw (sym (ap (any holds) same-terms) ∙ e)
+
+pub total-last : (f : ℕ → ℕ) (k : ℕ) → total f (range 0 (k + 1)) ≡ total f (range 0 k) + f k
+total-last f k =
+    ap (λ (n : ℕ). total f (range 0 n)) (add-one k)
+    ∙ ap (total f) (range-last 0 k)
+    ∙ total-append f (range 0 k) ((0 + k) ∷ [])
+    ∙ omega (arith, ap f (zero-add k))
+
+total-range-ext : (f g : ℕ → ℕ) (i n : ℕ) → ((j : ℕ) → i ≤ j → j < i + n → f j ≡ g j) → total f (range i n) ≡ total g (range i n)
+total-range-ext f g i zero h = refl
+total-range-ext f g i (suc n) h =
+    ap₂ (λ (a b : ℕ). a + b) (h i (omega arith) (omega arith)) (total-range-ext f g (suc i) n (λ j l k. h j (omega arith) (omega arith)))
+
+pub count-first : (ts us : List Term) (k code count : ℕ) → Within k code count → take k ts ≡ us → entrantCount ts code count ≡ entrantCount us code count
+unfolding entrantCount keptCount
+count-first ts us k code count w e =
+    total-range-ext (keptCount ts code count) (keptCount us code count) 0 (length (memberClauses code count))
+    (λ j _ h. ap (λ (l : List Term). length (keep l)) (values-map (literalTerm ts) (literalTerm us) (Pos 0) (clauseOf code count j)
+    (λ i l. literal-first ts k (getD (clauseOf code count j) i (Pos 0)) (w .below j i (omega arith) l)
+    ∙ ap (λ (x : List Term). literalTerm x (getD (clauseOf code count j) i (Pos 0))) e)))

@@ -1,0 +1,149 @@
+-- Laws of a totalizer's text: the node's clauses as rows, the tree from its halves, the units. Assumes nothing.
+use mathlib.Core.Path.{_≡_, refl, sym, ap, ap₂, _∙_}
+use mathlib.Core.Bool.{Bool, true, false, cond}
+use mathlib.Core.List.{List, [], _∷_, _++_, map, append-nil, append-assoc}
+use Prim.Native.Nat.{ℕ, zero, suc, _+_, _-_, _/_, _≤_, _<_}
+use native.Mathlib.Numerals.{add-one}
+use native.Mathlib.Omega.{arith}
+use lib.Dec.{T, eqb, eqb→eq}
+use lib.ListN.{length, getD, length-append}
+use Rattle.model.specs.declared.Literal.{Literal}
+use Rattle.model.specs.declared.Literal.the-variants.{Pos, Neg}
+use Rattle.model.specs.declared.Term.{Term}
+use Rattle.model.specs.declared.Term.the-variants.{Fails, Open}
+use Rattle.model.specs.Lists.{each, range, every}
+use Rattle.model.specs.Totalizer.{Output, Shape, holds, keep, up, down, formed, putIn, nodeClauses, shape, leaves, outputs, rootOutput, treeClauses, unit, unitClauses, totalizerClauses, outputCountIn, treeOutputCount, clauseCountIn, treeClauseCount}
+use Rattle.model.specs.Text.{clauseText}
+use Rattle.model.proofs.Lists.{every-range, each-append, each-each, each-map, each-range-ext}
+use Rattle.encoding_laws.proofs.Totalizer.{tree-step, root-step, shape-one}
+use Rattle.encoding_laws.proofs.Counts.{outputs-count, output-count-step}
+use Rattle.cnf.specs.declared.Node.{Node}
+use Rattle.cnf.specs.Parts.{keptText, outputText, pairText, rowText, nodeText, treeText, signed, unitText, Small}
+
+-- a table that was computed agrees with a function at each place
+table-is : (f : ℕ → ℕ) (table : List ℕ) (m n : ℕ) → T (every (λ k. eqb (getD table k 0) (f k)) (range 0 n)) → m < n → getD table m 0 ≡ f m
+table-is f table m n t h = eqb→eq (getD table m 0) (f m) (every-range (λ k. eqb (getD table k 0) (f k)) 0 n t m (omega arith) (omega arith))
+
+abbrev outputTable : List ℕ
+outputTable =
+    0 ∷ 0 ∷ 2 ∷ 5 ∷ 8 ∷ 12 ∷ 16 ∷ 20 ∷ 24 ∷ 29 ∷ 34 ∷ 39 ∷ 44 ∷ 49 ∷ 54 ∷ 59 ∷ 64 ∷ 70 ∷ 76 ∷ 82 ∷ 88 ∷ 94 ∷ 100 ∷ 106 ∷ 112 ∷ 118 ∷ 124 ∷ 130
+    ∷ 136 ∷ 142 ∷ 148 ∷ 154 ∷ 160 ∷ []
+
+pub output-table : (m : ℕ) → m ≤ 32 → getD outputTable m 0 ≡ treeOutputCount m
+unfolding treeOutputCount outputCountIn
+output-table m h = table-is treeOutputCount outputTable m 33 tt (omega arith)
+
+abbrev clauseTable : List ℕ
+clauseTable =
+    0 ∷ 0 ∷ 6 ∷ 16 ∷ 28 ∷ 44 ∷ 62 ∷ 82 ∷ 104 ∷ 130 ∷ 158 ∷ 188 ∷ 220 ∷ 254 ∷ 290 ∷ 328 ∷ 368 ∷ 412 ∷ 458 ∷ 506 ∷ 556 ∷ 608 ∷ 662 ∷ 718 ∷ 776
+    ∷ 836 ∷ 898 ∷ 962 ∷ 1028 ∷ 1096 ∷ 1166 ∷ 1238 ∷ 1312 ∷ []
+
+pub clause-table : (m : ℕ) → m ≤ 32 → getD clauseTable m 0 ≡ treeClauseCount m
+unfolding treeClauseCount clauseCountIn
+clause-table m h = table-is treeClauseCount clauseTable m 33 tt (omega arith)
+
+-- ---- a node
+
+node-text : (t : Node) → each clauseText (nodeClauses (t .c) (t .left) (t .d) (t .right) (t .own)) ≡ nodeText t
+unfolding nodeClauses formed nodeText rowText pairText outputText keptText
+node-text t =
+    each-each clauseText (λ f. keep (map put f)) (formed (t .left) (t .right))
+    ∙ each-each (outputText t) (λ p. each (λ q. up p q ∷ down p q ∷ []) (range 0 (suc (t .right)))) (range 0 (suc (t .left)))
+    ∙ each-range-ext (λ p. each (outputText t) (each (λ q. up p q ∷ down p q ∷ []) (range 0 (suc (t .right))))) (rowText t) 0 (suc (t .left)) (λ p _ _. row p)
+    ∙ ap (λ (k : ℕ). each (rowText t) (range 0 k)) (sym (add-one (t .left)))
+  where
+    put : Output → Term
+    put = putIn (t .c) (t .left) (t .d) (t .right) (t .own)
+
+    row : (p : ℕ) → each (outputText t) (each (λ q. up p q ∷ down p q ∷ []) (range 0 (suc (t .right)))) ≡ rowText t p
+    row p =
+        each-each (outputText t) (λ q. up p q ∷ down p q ∷ []) (range 0 (suc (t .right)))
+        ∙ each-range-ext (λ q. each (outputText t) (up p q ∷ down p q ∷ [])) (pairText t p) 0 (suc (t .right))
+        (λ q _ _. ap (λ (l : List ℕ). outputText t (up p q) ++ l) (append-nil (outputText t (down p q))))
+        ∙ ap (λ (k : ℕ). each (pairText t p) (range 0 k)) (sym (add-one (t .right)))
+
+-- ---- the tree
+
+pub tree-one : (m v o : ℕ) → m < 2 → treeText m v o ≡ []
+unfolding treeText treeClauses
+tree-one m v o h = ap (λ (s : Shape). each clauseText (treeClauses s v o)) (shape-one m (omega arith))
+
+pub root-one : (m v o : ℕ) → m < 2 → rootOutput (shape m) v o ≡ v
+root-one m v o h = ap (λ (s : Shape). rootOutput s v o) (shape-one m (omega arith))
+
+pub root-more : (m v o : ℕ) → 2 ≤ m → rootOutput (shape m) v o + m ≡ o + treeOutputCount m
+root-more m v o h = root-step m v o h ∙ ap (λ (k : ℕ). o + k) (outputs-count m)
+
+pub root-bound : (m v o : ℕ) → 1 ≤ m → rootOutput (shape m) v o + m ≤ (v + m) + (o + treeOutputCount m)
+root-bound (suc zero) v o h = omega (arith, root-one 1 v o (omega arith))
+root-bound (suc (suc m)) v o h = omega (arith, root-more (suc (suc m)) v o (omega arith))
+
+-- the node over the halves of m
+abbrev nodeOf : (m c d own : ℕ) → Node
+nodeOf m c d own = record { c = c; left = m / 2; d = d; right = m - m / 2; own = own }
+
+module _ (m v o p own c d : ℕ) (h : 2 ≤ m) (hp : p ≡ o + treeOutputCount (m / 2)) (hown : own ≡ p + treeOutputCount (m - m / 2))
+    (hc : c ≡ rootOutput (shape (m / 2)) v o) (hd : d ≡ rootOutput (shape (m - m / 2)) (v + m / 2) p) where
+  pub tree-text : treeText m v o ≡ (treeText (m / 2) v o ++ treeText (m - m / 2) (v + m / 2) p) ++ nodeText (nodeOf m c d own)
+  unfolding treeText
+  tree-text =
+      let a = outputs-count (m / 2) in
+      let b = outputs-count (m - m / 2) in
+      ap (each clauseText) (tree-step m v o h)
+      ∙ rw (a, b, ← hp, ← hown, ← hc, ← hd)
+      (each-append clauseText (treeClauses (shape (m / 2)) v o ++ treeClauses (shape (m - m / 2)) (v + m / 2) p) (nodeClauses c (m / 2) d (m - m / 2) own)
+      ∙ ap₂ (λ (x y : List ℕ). x ++ y) (each-append clauseText (treeClauses (shape (m / 2)) v o) (treeClauses (shape (m - m / 2)) (v + m / 2) p))
+      (node-text (nodeOf m c d own)))
+
+  pub tree-length : length (treeText m v o)
+      ≡ length (treeText (m / 2) v o) + length (treeText (m - m / 2) (v + m / 2) p) + length (nodeText (nodeOf m c d own))
+  tree-length =
+      ap length tree-text
+      ∙ length-append (treeText (m / 2) v o ++ treeText (m - m / 2) (v + m / 2) p) (nodeText (nodeOf m c d own))
+      ∙ ap (λ (k : ℕ). k + length (nodeText (nodeOf m c d own))) (length-append (treeText (m / 2) v o) (treeText (m - m / 2) (v + m / 2) p))
+
+  pub outputs-more : treeOutputCount m ≡ m + treeOutputCount (m / 2) + treeOutputCount (m - m / 2)
+  outputs-more = output-count-step m h
+
+  pub small : v + m < 50000 → o + treeOutputCount m < 50000 → Small (nodeOf m c d own)
+  small x y =
+      record {
+        lefts = omega (arith, root-bound (m / 2) v o (omega arith), outputs-more);
+        rights = omega (arith, root-bound (m - m / 2) (v + m / 2) p (omega arith), outputs-more);
+        owns = omega (arith, outputs-more);
+      }
+
+-- ---- the units
+
+-- a clause of one literal, as one of three terms
+pub unit-kept : (l : Literal) → keptText (Open l ∷ Fails ∷ Fails ∷ []) ≡ clauseText (l ∷ [])
+unfolding keptText keep
+unit-kept l = append-nil (clauseText (l ∷ []))
+
+pub unit-is : (s : Bool) (first i : ℕ) → clauseText (signed s (first + i) ∷ []) ≡ unitText s first i
+unfolding unitText unit
+unit-is s first i = refl
+
+units-text : (first m L U : ℕ)
+    → each clauseText (unitClauses first m L U) ≡ each (unitText true first) (range 0 L) ++ each (unitText false first) (range U (m - U))
+unfolding unitClauses unitText
+units-text first m L U =
+    each-append clauseText (map (unit Pos first) (range 0 L)) (map (unit Neg first) (range U (m - U)))
+    ∙ ap₂ (λ (x y : List ℕ). x ++ y) (each-map clauseText (unit Pos first) (range 0 L)) (each-map clauseText (unit Neg first) (range U (m - U)))
+
+module _ (m v o L U first : ℕ) (e : first ≡ rootOutput (shape m) v o) where
+  pub totalizer-text : each clauseText (totalizerClauses m v o L U)
+      ≡ (treeText m v o ++ each (unitText true first) (range 0 L)) ++ each (unitText false first) (range U (m - U))
+  unfolding totalizerClauses treeText
+  totalizer-text =
+      each-append clauseText (treeClauses (shape m) v o) (unitClauses (rootOutput (shape m) v o) m L U)
+      ∙ ap (λ (k : ℕ). treeText m v o ++ each clauseText (unitClauses k m L U)) (sym e)
+      ∙ ap (λ (l : List ℕ). treeText m v o ++ l) (units-text first m L U)
+      ∙ sym (append-assoc (treeText m v o) (each (unitText true first) (range 0 L)) (each (unitText false first) (range U (m - U))))
+
+  pub totalizer-length : length (each clauseText (totalizerClauses m v o L U))
+      ≡ length (treeText m v o) + length (each (unitText true first) (range 0 L)) + length (each (unitText false first) (range U (m - U)))
+  totalizer-length =
+      ap length totalizer-text
+      ∙ length-append (treeText m v o ++ each (unitText true first) (range 0 L)) (each (unitText false first) (range U (m - U)))
+      ∙ ap (λ (k : ℕ). k + length (each (unitText false first) (range U (m - U)))) (length-append (treeText m v o) (each (unitText true first) (range 0 L)))

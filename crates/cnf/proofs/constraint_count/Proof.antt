@@ -1,0 +1,57 @@
+-- `constraint_count` counts the clauses that a constraint keeps. Assumes nothing.
+use mathlib.Core.Path.{_≡_, refl, sym, ap, _∙_}
+use mathlib.Core.List.{map}
+use Prim.Native.Nat.{ℕ, _-_, _*_, _≤_}
+use lib.ListN.{length, take}
+use Rattle.model.specs.Lists.{total, range}
+use Rattle.cnf.specs.Parts.{memberTerm, entrantCount, constraintCount}
+use Rattle.cnf.proofs.MemberTerms.{total-last, count-first}
+use native.Mathlib.Omega.{arith}
+use Rattle.cnf.proofs.constraint_count.Statement.{statement}
+use Rattle.cnf.proofs.constraint_count.Tie as tie
+
+abbrev Inv-loop : tie.InvT-loop
+Inv-loop ms k code count n r₀ e₀ r e = (e ≤ n) × (r ≡ total (λ i. entrantCount (map (memberTerm i) (take k ms)) code count) (range 0 e)) × (r ≤ e * 100)
+
+abbrev μ-loop : tie.MeasureT-loop
+μ-loop ms k code count n r₀ e₀ r e = n - e
+
+loop-holds : tie.Need-loop-holds Inv-loop μ-loop
+loop-holds c = (omega arith, refl, omega arith)
+
+member-terms-requires : tie.Need-member-terms-requires Inv-loop μ-loop
+member-terms-requires c κs = (((c .before .before .pre .0 .0), omega arith), (c .before .before .pre .1 .1 .1))
+
+entrant-count-requires : tie.Need-entrant-count-requires Inv-loop μ-loop
+entrant-count-requires c κs = ((c .before .before .before .pre .1 .0 .0), (c .before .before .before .pre .1 .1 .0))
+
+add-r : tie.Need-add-r Inv-loop μ-loop
+add-r c = omega (arith, (c .entrant-count .ensures .1), (c .before .before .before .loop .inv .2), (c .before .before .before .before .pre .1 .1 .0))
+
+add-e : tie.Need-add-e Inv-loop μ-loop
+add-e c = omega arith
+
+loop-less : tie.Need-loop-less Inv-loop μ-loop
+loop-less c = omega arith
+
+loop-again : tie.Need-loop-again Inv-loop μ-loop
+loop-again c = (omega arith, omega (arith, (c .before .before .before .loop .inv .1), (c .entrant-count .ensures .0), count-first (c .before .member-terms .result) _ (c .before .before .before .before .args .k) (c .before .before .before .before .args .code) (c .before .before .before .before .args .count) (c .before .before .before .before .pre .1 .0 .1) (c .before .member-terms .ensures .1), total-last (λ i. entrantCount (map (memberTerm i) (take (c .before .before .before .before .args .k) (c .before .before .before .before .args .ms))) (c .before .before .before .before .args .code) (c .before .before .before .before .args .count)) (c .before .before .before .loop .e)), omega (arith, (c .entrant-count .ensures .1), (c .before .before .before .loop .inv .2), (c .before .before .before .before .pre .1 .1 .0)))
+
+returns : tie.Need-returns Inv-loop μ-loop
+unfolding constraintCount
+returns c = let q : (c .before .loop .e) ≡ (c .before .before .args .n) = omega arith in ((c .before .loop .inv .1) ∙ ap (λ (m : ℕ). total (λ i. entrantCount (map (memberTerm i) (take (c .before .before .args .k) (c .before .before .args .ms))) (c .before .before .args .code) (c .before .before .args .count)) (range 0 m)) q, omega (arith, (c .before .loop .inv .2)))
+
+pub constraint-count-spec : {M : Type 1} → statement M
+constraint-count-spec =
+    tie.close
+    (tie.spec
+    Inv-loop
+    μ-loop
+    loop-holds
+    member-terms-requires
+    entrant-count-requires
+    add-r
+    add-e
+    loop-less
+    loop-again
+    returns)

@@ -1,0 +1,743 @@
+// The block writer: one block of the listing in a buffer of the caller's. The third step of the chain.
+ghost use mathlib.Core.Path.{_≡_};
+ghost use mathlib.Core.Bool.{true, false};
+ghost use mathlib.Core.List.{[], _∷_, _++_, map};
+ghost use lib.Dec.{T};
+ghost use Prim.Native.Nat.{ℕ, _+_, _-_, _≤_, _<_};
+ghost use lib.ListN.{length, take, drop, getD};
+ghost use Rattle.model.specs.Lists.{any, each, every, between, range, total};
+ghost use Rattle.model.specs.Limits.{limits};
+ghost use Rattle.model.specs.Clauses.{memberClauses};
+ghost use Rattle.model.specs.Totalizer.{oppositeTerm, holds, output, shape, rootOutput, up, down, totalizerClauses, treeOutputCount, treeClauseCount};
+ghost use Rattle.model.specs.Cnf.{openCount, outputsOf, groupClauseCount};
+ghost use Rattle.model.specs.Assignment.{variable};
+ghost use Rattle.model.specs.Text.{decimal, literalText, clauseText};
+ghost use Rattle.cnf.specs.Wrote.{Wrote};
+ghost use Rattle.cnf.specs.Parts.{spaced, termText, keptText, outputText, pairText, rowText, nodeText, treeText, signed, unitText, groupText, counterOf, memberOf, memberTerm, smallMember, literalTerm, clauseOf, memberClauseText, entrantText, constraintText, keptCount, entrantCount, constraintCount, Small, Steady, Steadies, Fitting, Within};
+use model::Group;
+use model::Literal;
+use model::Model;
+use model::Term;
+
+// ---- a clause
+
+// The decimal text of v.
+fn put_number(buf: &mut [u8], at: usize, v: u32) -> usize
+    requires { ⌜ at + length (decimal v) ≤ length (now buf) ⌝ }
+    ensures { λ r. ⌜ Wrote (decimal v) at (now (buf .entry)) (now (buf .exit)) r ⌝ }
+{
+    if v < 10 {
+        buf[at] = 48 + (v % 10) as u8;
+        return at + 1;
+    }
+    let n = put_number(buf, at, v / 10);
+    buf[n] = 48 + (v % 10) as u8;
+    n + 1
+}
+
+// A number and a space.
+fn put_spaced(buf: &mut [u8], at: usize, v: u32) -> usize
+    requires { ⌜ at + length (spaced v) ≤ length (now buf) ⌝ }
+    ensures { λ r. ⌜ Wrote (spaced v) at (now (buf .entry)) (now (buf .exit)) r ⌝ }
+{
+    let n = put_number(buf, at, v);
+    buf[n] = 32;
+    n + 1
+}
+
+fn put_literal(buf: &mut [u8], at: usize, l: Literal) -> usize
+    requires { ⌜ at + length (literalText l) ≤ length (now buf) ⌝ }
+    ensures { λ r. ⌜ Wrote (literalText l) at (now (buf .entry)) (now (buf .exit)) r ⌝ }
+{
+    match l {
+        Literal::Pos(v) => put_spaced(buf, at, v),
+        Literal::Neg(v) => {
+            buf[at] = 45;
+            put_spaced(buf, at + 1, v)
+        }
+    }
+}
+
+// A term's text: nothing where it is known.
+fn put_term(buf: &mut [u8], at: usize, t: Term) -> usize
+    requires { ⌜ at + length (termText t) ≤ length (now buf) ⌝ }
+    ensures { λ r. ⌜ Wrote (termText t) at (now (buf .entry)) (now (buf .exit)) r ⌝ }
+{
+    match t {
+        Term::Holds => at,
+        Term::Fails => at,
+        Term::Open(l) => put_literal(buf, at, l),
+    }
+}
+
+fn is_true(t: Term) -> bool
+    ensures { λ r. ⌜ r ≡ holds t ⌝ }
+{
+    match t {
+        Term::Holds => true,
+        Term::Fails => false,
+        Term::Open(_) => false,
+    }
+}
+
+// Whether one of the first k terms is true.
+fn any_true(ts: [Term; Model::MEMBERS], k: usize) -> bool
+    requires { ⌜ k ≤ limits .members ⌝ }
+    ensures { λ r. ⌜ r ≡ any holds (take k ts) ⌝ }
+{
+    let mut i: usize = 0;
+    while i < k {
+        let t = ts[i];
+        if is_true(t) {
+            return true;
+        }
+        i += 1;
+    }
+    false
+}
+
+// The texts of the first k terms.
+fn put_terms(buf: &mut [u8], at: usize, ts: [Term; Model::MEMBERS], k: usize) -> usize
+    requires { ⌜ k ≤ limits .members ⌝ }
+    requires { ⌜ at + length (each termText (take k ts)) ≤ length (now buf) ⌝ }
+    ensures { λ r. ⌜ Wrote (each termText (take k ts)) at (now (buf .entry)) (now (buf .exit)) r ⌝ }
+{
+    let mut n = at;
+    let mut i: usize = 0;
+    while i < k {
+        let t = ts[i];
+        n = put_term(buf, n, t);
+        i += 1;
+    }
+    n
+}
+
+// The clause of the first k terms at the start of buf: nothing where one of them is true.
+fn put_clause(buf: &mut [u8], ts: [Term; Model::MEMBERS], k: usize) -> usize
+    requires { ⌜ k ≤ limits .members ⌝ }
+    requires { ⌜ length (keptText (take k ts)) ≤ length (now buf) ⌝ }
+    ensures { λ r. ⌜ Wrote (keptText (take k ts)) 0 (now (buf .entry)) (now (buf .exit)) r ⌝ }
+{
+    if any_true(ts, k) {
+        return 0;
+    }
+    let c = put_terms(buf, 0, ts, k);
+    buf[c] = 48;
+    let d = c + 1;
+    buf[d] = 10;
+    d + 1
+}
+
+// ---- a totalizer
+
+// Output i of size outputs, numbered from first on: 0 is true, one above the size false.
+fn output(first: u32, size: u32, i: u32) -> Term
+    requires { ⌜ first + size < 1000000 ⌝ }
+    ensures { λ r. ⌜ r ≡ output first size i ⌝ }
+{
+    if i == 0 {
+        return Term::Holds;
+    }
+    if i <= size {
+        return Term::Open(Literal::Pos(first + (i - 1)));
+    }
+    Term::Fails
+}
+
+fn opposite(t: Term) -> Term
+    ensures { λ r. ⌜ r ≡ oppositeTerm t ⌝ }
+{
+    match t {
+        Term::Holds => Term::Fails,
+        Term::Fails => Term::Holds,
+        Term::Open(l) => match l {
+            Literal::Pos(v) => Term::Open(Literal::Neg(v)),
+            Literal::Neg(v) => Term::Open(Literal::Pos(v)),
+        },
+    }
+}
+
+// The clause of three terms, in the part of buf from at on.
+fn put_three(buf: &mut [u8], at: usize, x: Term, y: Term, z: Term) -> usize
+    requires { ⌜ at + length (keptText (x ∷ y ∷ z ∷ [])) ≤ length (now buf) ⌝ }
+    ensures { λ r. ⌜ Wrote (keptText (x ∷ y ∷ z ∷ [])) at (now (buf .entry)) (now (buf .exit)) r ⌝ }
+{
+    let mut ts = [Term::Fails; Model::MEMBERS];
+    ts[0] = x;
+    ts[1] = y;
+    ts[2] = z;
+    let n = put_clause(&mut buf[at..], ts, 3);
+    at + n
+}
+
+// A node of the tree: the first output and the size of its left half, of its right half, and its own first output.
+struct Node {
+    c: u32,
+    left: u32,
+    d: u32,
+    right: u32,
+    own: u32,
+}
+
+fn put_up(buf: &mut [u8], at: usize, t: Node, p: u32, q: u32) -> usize
+    requires { ⌜ Small t ⌝ }
+    requires { ⌜ (p ≤ t .left) × (q ≤ t .right) ⌝ }
+    requires { ⌜ at + length (outputText t (up p q)) ≤ length (now buf) ⌝ }
+    ensures { λ r. ⌜ Wrote (outputText t (up p q)) at (now (buf .entry)) (now (buf .exit)) r ⌝ }
+{
+    let x = opposite(output(t.c, t.left, p));
+    let y = opposite(output(t.d, t.right, q));
+    let z = output(t.own, t.left + t.right, p + q);
+    put_three(buf, at, x, y, z)
+}
+
+fn put_down(buf: &mut [u8], at: usize, t: Node, p: u32, q: u32) -> usize
+    requires { ⌜ Small t ⌝ }
+    requires { ⌜ (p ≤ t .left) × (q ≤ t .right) ⌝ }
+    requires { ⌜ at + length (outputText t (down p q)) ≤ length (now buf) ⌝ }
+    ensures { λ r. ⌜ Wrote (outputText t (down p q)) at (now (buf .entry)) (now (buf .exit)) r ⌝ }
+{
+    let c = output(t.c, t.left, p + 1);
+    let d = output(t.d, t.right, q + 1);
+    let n = opposite(output(t.own, t.left + t.right, p + q + 1));
+    put_three(buf, at, c, d, n)
+}
+
+fn put_pair(buf: &mut [u8], at: usize, t: Node, p: u32, q: u32) -> usize
+    requires { ⌜ Small t ⌝ }
+    requires { ⌜ (p ≤ t .left) × (q ≤ t .right) ⌝ }
+    requires { ⌜ at + length (pairText t p q) ≤ length (now buf) ⌝ }
+    ensures { λ r. ⌜ Wrote (pairText t p q) at (now (buf .entry)) (now (buf .exit)) r ⌝ }
+{
+    let n = put_up(buf, at, t, p, q);
+    put_down(buf, n, t, p, q)
+}
+
+// The clauses of one p, for q = 0..right.
+fn put_row(buf: &mut [u8], at: usize, t: Node, p: u32) -> usize
+    requires { ⌜ Small t ⌝ }
+    requires { ⌜ p ≤ t .left ⌝ }
+    requires { ⌜ at + length (rowText t p) ≤ length (now buf) ⌝ }
+    ensures { λ r. ⌜ Wrote (rowText t p) at (now (buf .entry)) (now (buf .exit)) r ⌝ }
+{
+    let end = t.right + 1;
+    let mut n = at;
+    let mut q = 0;
+    while q < end {
+        n = put_pair(buf, n, t, p, q);
+        q += 1;
+    }
+    n
+}
+
+// The node's clauses, for p = 0..left.
+fn put_node(buf: &mut [u8], at: usize, t: Node) -> usize
+    requires { ⌜ Small t ⌝ }
+    requires { ⌜ at + length (nodeText t) ≤ length (now buf) ⌝ }
+    ensures { λ r. ⌜ Wrote (nodeText t) at (now (buf .entry)) (now (buf .exit)) r ⌝ }
+{
+    let end = t.left + 1;
+    let mut n = at;
+    let mut p = 0;
+    while p < end {
+        n = put_row(buf, n, t, p);
+        p += 1;
+    }
+    n
+}
+
+// "outputs A(1) = 0, A(m) = m + A(left) + A(right)", for sizes up to 32.
+const OUTPUTS: [u32; 33] = [
+    0,
+    0,
+    2,
+    5,
+    8,
+    12,
+    16,
+    20,
+    24,
+    29,
+    34,
+    39,
+    44,
+    49,
+    54,
+    59,
+    64,
+    70,
+    76,
+    82,
+    88,
+    94,
+    100,
+    106,
+    112,
+    118,
+    124,
+    130,
+    136,
+    142,
+    148,
+    154,
+    160,
+];
+
+// "Tree clauses T(1) = 0, T(m) = T(left) + T(right) + 2(a+1)(b+1) - 2".
+const CLAUSES: [u32; 33] = [
+    0,
+    0,
+    6,
+    16,
+    28,
+    44,
+    62,
+    82,
+    104,
+    130,
+    158,
+    188,
+    220,
+    254,
+    290,
+    328,
+    368,
+    412,
+    458,
+    506,
+    556,
+    608,
+    662,
+    718,
+    776,
+    836,
+    898,
+    962,
+    1028,
+    1096,
+    1166,
+    1238,
+    1312,
+];
+
+fn output_count(m: u32) -> u32
+    requires { ⌜ m ≤ 32 ⌝ }
+    ensures { λ r. ⌜ r ≡ treeOutputCount m ⌝ }
+{
+    OUTPUTS[m as usize]
+}
+
+fn clause_count(m: u32) -> u32
+    requires { ⌜ m ≤ 32 ⌝ }
+    ensures { λ r. ⌜ r ≡ treeClauseCount m ⌝ }
+{
+    CLAUSES[m as usize]
+}
+
+// The first output of a tree's root, where its leaves start at v and its outputs at o.
+fn root(m: u32, v: u32, o: u32) -> u32
+    requires { ⌜ (m ≤ 32) × (o < 100000) ⌝ }
+    ensures { λ r. ⌜ r ≡ rootOutput (shape m) v o ⌝ }
+{
+    if m < 2 {
+        return v;
+    }
+    o + output_count(m) - m
+}
+
+// The tree of size m: left half, right half, then the node itself.
+fn put_tree(buf: &mut [u8], at: usize, m: u32, v: u32, o: u32) -> usize
+    requires { ⌜ (1 ≤ m) × (m ≤ 32) × (v + m < 50000) × (o + treeOutputCount m < 50000) ⌝ }
+    requires { ⌜ at + length (treeText m v o) ≤ length (now buf) ⌝ }
+    ensures { λ r. ⌜ Wrote (treeText m v o) at (now (buf .entry)) (now (buf .exit)) r ⌝ }
+{
+    if m < 2 {
+        return at;
+    }
+    let a = m / 2;
+    let b = m - a;
+    let w = v + a;
+    let p = o + output_count(a);
+    let own = p + output_count(b);
+    let c = root(a, v, o);
+    let d = root(b, w, p);
+    let x = put_tree(buf, at, a, v, o);
+    let y = put_tree(buf, x, b, w, p);
+    let t = Node {
+        c,
+        left: a,
+        d,
+        right: b,
+        own,
+    };
+    put_node(buf, y, t)
+}
+
+// The clause of one literal.
+fn put_unit(buf: &mut [u8], at: usize, positive: bool, v: u32) -> usize
+    requires { ⌜ at + length (clauseText (signed positive v ∷ [])) ≤ length (now buf) ⌝ }
+    ensures { λ r. ⌜ Wrote (clauseText (signed positive v ∷ [])) at (now (buf .entry)) (now (buf .exit)) r ⌝ }
+{
+    if positive {
+        let x = Term::Open(Literal::Pos(v));
+        return put_three(buf, at, x, Term::Fails, Term::Fails);
+    }
+    let y = Term::Open(Literal::Neg(v));
+    put_three(buf, at, y, Term::Fails, Term::Fails)
+}
+
+// The unit clauses of the outputs a, a + 1, .. (k of them) that are numbered from first on.
+fn put_units(buf: &mut [u8], at: usize, positive: bool, first: u32, a: u32, k: u32) -> usize
+    requires { ⌜ first + (a + k) < 100000 ⌝ }
+    requires { ⌜ at + length (each (unitText positive first) (range a k)) ≤ length (now buf) ⌝ }
+    ensures { λ r. ⌜ Wrote (each (unitText positive first) (range a k)) at (now (buf .entry)) (now (buf .exit)) r ⌝ }
+{
+    let mut n = at;
+    let mut i = 0;
+    while i < k {
+        n = put_unit(buf, n, positive, first + (a + i));
+        i += 1;
+    }
+    n
+}
+
+// A totalizer: the tree, then its units.
+fn put_totalizer(buf: &mut [u8], at: usize, m: u32, v: u32, o: u32, low: u32, high: u32) -> usize
+    requires { ⌜ (1 ≤ m) × (m ≤ 32) × (v + m < 50000) × (o + treeOutputCount m < 50000) ⌝ }
+    requires { ⌜ (low ≤ m) × (high ≤ m) ⌝ }
+    requires { ⌜ at + length (each clauseText (totalizerClauses m v o low high)) ≤ length (now buf) ⌝ }
+    ensures { λ r. ⌜ Wrote (each clauseText (totalizerClauses m v o low high)) at (now (buf .entry)) (now (buf .exit)) r ⌝ }
+{
+    let first = root(m, v, o);
+    let x = put_tree(buf, at, m, v, o);
+    let y = put_units(buf, x, true, first, 0, low);
+    put_units(buf, y, false, first, high, m - high)
+}
+
+// ---- a group
+
+// How many entrants are open.
+fn open_count(g: Group) -> u32
+    ensures { λ r. ⌜ r ≡ openCount g ⌝ }
+{
+    u64::count_ones(g.possible ^ (g.possible & g.fixed))
+}
+
+// m, L and U of a group, and whether it has a totalizer.
+struct Counter {
+    free: u32,
+    low: u32,
+    high: u32,
+    exists: bool,
+}
+
+fn counter_of(g: Group) -> Counter
+    requires { ⌜ Steady g ⌝ }
+    ensures { λ r. ⌜ r ≡ counterOf g ⌝ }
+{
+    let free = open_count(g);
+    let fixed = u64::count_ones(g.fixed);
+    let low = g.low - fixed;
+    let high = g.high - fixed;
+    let exists = 0 < low || high < free;
+    Counter {
+        free,
+        low,
+        high,
+        exists,
+    }
+}
+
+// The clauses of a group's totalizer, if it has one; its variables start at v and the outputs at o.
+fn put_group(buf: &mut [u8], at: usize, g: Group, v: u32, o: u32) -> usize
+    requires { ⌜ Steady g ⌝ }
+    requires { ⌜ (v + openCount g < 50000) × (o + outputsOf g < 50000) ⌝ }
+    requires { ⌜ at + length (groupText g v o) ≤ length (now buf) ⌝ }
+    ensures { λ r. ⌜ Wrote (groupText g v o) at (now (buf .entry)) (now (buf .exit)) r ⌝ }
+{
+    let c = counter_of(g);
+    if !c.exists {
+        return at;
+    }
+    put_totalizer(buf, at, c.free, v, o, c.low, c.high)
+}
+
+// What the groups before a place have in all: open entrants, outputs and clauses.
+struct Sums {
+    free: u32,
+    outputs: u32,
+    clauses: u32,
+}
+
+fn add_group(t: Sums, g: Group) -> Sums
+    requires { ⌜ Steady g ⌝ }
+    requires { ⌜ (t .free < 1000000) × (t .outputs < 1000000) × (t .clauses < 1000000) ⌝ }
+    ensures { λ r. ⌜ (r .free ≡ t .free + openCount g) × (r .outputs ≡ t .outputs + outputsOf g) × (r .clauses ≡ t .clauses + groupClauseCount g) ⌝ }
+{
+    let c = counter_of(g);
+    if !c.exists {
+        return Sums {
+            free: t.free + c.free,
+            outputs: t.outputs,
+            clauses: t.clauses,
+        };
+    }
+    Sums {
+        free: t.free + c.free,
+        outputs: t.outputs + output_count(c.free),
+        clauses: t.clauses + (clause_count(c.free) + c.low + (c.free - c.high)),
+    }
+}
+
+// The first k groups.
+fn sum_groups(groups: [Group; Model::GROUPS], k: usize) -> Sums
+    requires { ⌜ k ≤ limits .groups ⌝ }
+    requires { ⌜ Steadies (take k groups) ⌝ }
+    ensures { λ r. ⌜ (r .free ≡ total openCount (take k groups)) × (r .outputs ≡ total outputsOf (take k groups)) × (r .clauses ≡ total groupClauseCount (take k groups)) ⌝ }
+    ensures { λ r. ⌜ (r .free ≤ 8192) × (r .outputs ≤ 40960) × (r .clauses ≤ 344064) ⌝ }
+{
+    let mut t = Sums {
+        free: 0,
+        outputs: 0,
+        clauses: 0,
+    };
+    let mut i: usize = 0;
+    while i < k {
+        let g = groups[i];
+        let u = add_group(t, g);
+        t = u;
+        i += 1;
+    }
+    t
+}
+
+// ---- a constraint
+
+// What a constraint asks of one of its groups: the words and the first variable.
+struct Member {
+    fixed: u64,
+    possible: u64,
+    first: u32,
+}
+
+// Group g of the first s.
+fn member_of(groups: [Group; Model::GROUPS], s: usize, g: usize) -> Member
+    requires { ⌜ (s ≤ limits .groups) × (1 ≤ g) × (g ≤ s) ⌝ }
+    requires { ⌜ Steadies (take s groups) ⌝ }
+    ensures { λ r. ⌜ r ≡ memberOf (take s groups) g ⌝ }
+{
+    let i = g - 1;
+    let t = sum_groups(groups, i);
+    let x = groups[i];
+    Member {
+        fixed: x.fixed,
+        possible: x.possible,
+        first: 1 + t.free,
+    }
+}
+
+// The first k groups of a constraint.
+fn members(
+    groups: [Group; Model::GROUPS],
+    s: usize,
+    ids: [u32; Model::MEMBERS],
+    k: usize,
+) -> [Member; Model::MEMBERS]
+    requires { ⌜ (s ≤ limits .groups) × (k ≤ limits .members) ⌝ }
+    requires { ⌜ Steadies (take s groups) ⌝ }
+    requires { ⌜ T (every (between 1 s) (take k ids)) ⌝ }
+    ensures { λ r. ⌜ (length r ≡ limits .members) × (take k r ≡ map (memberOf (take s groups)) (take k ids)) ⌝ }
+{
+    let none = Member {
+        fixed: 0,
+        possible: 0,
+        first: 0,
+    };
+    let mut r = [none; Model::MEMBERS];
+    let mut i: usize = 0;
+    while i < k {
+        r[i] = member_of(groups, s, ids[i] as usize);
+        i += 1;
+    }
+    r
+}
+
+// "in group g" for entrant e.
+fn member_term(m: Member, e: u32) -> Term
+    requires { ⌜ (e < 32) × (m .first < 100000) ⌝ }
+    ensures { λ r. ⌜ r ≡ memberTerm e m ⌝ }
+{
+    if (m.fixed >> e) % 2 == 1 {
+        return Term::Holds;
+    }
+    if (m.possible >> e) % 2 == 1 {
+        let free = m.possible ^ (m.possible & m.fixed);
+        let below = free % (1 << e);
+        return Term::Open(Literal::Pos(m.first + u64::count_ones(below)));
+    }
+    Term::Fails
+}
+
+// The same for each of the first k groups.
+fn member_terms(ms: [Member; Model::MEMBERS], k: usize, e: u32) -> [Term; Model::MEMBERS]
+    requires { ⌜ (k ≤ limits .members) × (e < 32) ⌝ }
+    requires { ⌜ T (every smallMember (take k ms)) ⌝ }
+    ensures { λ r. ⌜ (length r ≡ limits .members) × (take k r ≡ map (memberTerm e) (take k ms)) ⌝ }
+{
+    let mut r = [Term::Fails; Model::MEMBERS];
+    let mut i: usize = 0;
+    while i < k {
+        let m = ms[i];
+        r[i] = member_term(m, e);
+        i += 1;
+    }
+    r
+}
+
+// A literal of a member.
+fn literal_term(ts: [Term; Model::MEMBERS], l: Literal) -> Term
+    requires { ⌜ variable l < limits .members ⌝ }
+    ensures { λ r. ⌜ r ≡ literalTerm ts l ⌝ }
+{
+    match l {
+        Literal::Pos(i) => ts[i as usize],
+        Literal::Neg(i) => opposite(ts[i as usize]),
+    }
+}
+
+// The terms of clause j.
+fn clause_terms(
+    ts: [Term; Model::MEMBERS],
+    code: u32,
+    count: u32,
+    j: usize,
+) -> [Term; Model::MEMBERS]
+    requires { ⌜ Fitting code count ⌝ }
+    ensures { λ r. ⌜ (length r ≡ limits .members) × (take (length (clauseOf code count j)) r ≡ map (literalTerm ts) (clauseOf code count j)) ⌝ }
+{
+    let k = constraint::literal_count(code, count, j);
+    let mut r = [Term::Fails; Model::MEMBERS];
+    let mut i: usize = 0;
+    while i < k {
+        let l = constraint::literal_at(code, count, j, i);
+        r[i] = literal_term(ts, l);
+        i += 1;
+    }
+    r
+}
+
+// Clause j, in the part of buf from at on.
+fn put_member_clause(
+    buf: &mut [u8],
+    at: usize,
+    ts: [Term; Model::MEMBERS],
+    code: u32,
+    count: u32,
+    j: usize,
+) -> usize
+    requires { ⌜ Fitting code count ⌝ }
+    requires { ⌜ at + length (memberClauseText ts code count j) ≤ length (now buf) ⌝ }
+    ensures { λ r. ⌜ Wrote (memberClauseText ts code count j) at (now (buf .entry)) (now (buf .exit)) r ⌝ }
+{
+    let k = constraint::literal_count(code, count, j);
+    let cs = clause_terms(ts, code, count, j);
+    let n = put_clause(&mut buf[at..], cs, k);
+    at + n
+}
+
+// The clauses of one entrant.
+fn put_entrant(
+    buf: &mut [u8],
+    at: usize,
+    ts: [Term; Model::MEMBERS],
+    code: u32,
+    count: u32,
+) -> usize
+    requires { ⌜ Fitting code count ⌝ }
+    requires { ⌜ at + length (entrantText ts code count) ≤ length (now buf) ⌝ }
+    ensures { λ r. ⌜ Wrote (entrantText ts code count) at (now (buf .entry)) (now (buf .exit)) r ⌝ }
+{
+    let end = constraint::clause_count(code, count);
+    let mut n = at;
+    let mut j: usize = 0;
+    while j < end {
+        n = put_member_clause(buf, n, ts, code, count, j);
+        j += 1;
+    }
+    n
+}
+
+// The clauses of a constraint of k members, for n entrants.
+fn put_constraint(
+    buf: &mut [u8],
+    at: usize,
+    ms: [Member; Model::MEMBERS],
+    k: usize,
+    code: u32,
+    count: u32,
+    n: u32,
+) -> usize
+    requires { ⌜ (k ≤ limits .members) × (n ≤ 32) ⌝ }
+    requires { ⌜ Fitting code count × Within k code count ⌝ }
+    requires { ⌜ T (every smallMember (take k ms)) ⌝ }
+    requires { ⌜ at + length (constraintText (take k ms) code count n) ≤ length (now buf) ⌝ }
+    ensures { λ r. ⌜ Wrote (constraintText (take k ms) code count n) at (now (buf .entry)) (now (buf .exit)) r ⌝ }
+{
+    let mut x = at;
+    let mut e = 0;
+    while e < n {
+        let ts = member_terms(ms, k, e);
+        x = put_entrant(buf, x, ts, code, count);
+        e += 1;
+    }
+    x
+}
+
+// ---- counting the clauses that are kept
+
+// 1 where clause j is kept, and 0 where it is left out.
+fn kept_count(ts: [Term; Model::MEMBERS], code: u32, count: u32, j: usize) -> u32
+    requires { ⌜ Fitting code count ⌝ }
+    ensures { λ r. ⌜ (r ≡ keptCount ts code count j) × (r ≤ 1) ⌝ }
+{
+    let k = constraint::literal_count(code, count, j);
+    let cs = clause_terms(ts, code, count, j);
+    if any_true(cs, k) {
+        return 0;
+    }
+    1
+}
+
+// Of one entrant.
+fn entrant_count(ts: [Term; Model::MEMBERS], code: u32, count: u32) -> u32
+    requires { ⌜ Fitting code count ⌝ }
+    requires { ⌜ length (memberClauses code count) ≤ 100 ⌝ }
+    ensures { λ r. ⌜ (r ≡ entrantCount ts code count) × (r ≤ length (memberClauses code count)) ⌝ }
+{
+    let end = constraint::clause_count(code, count);
+    let mut r = 0;
+    let mut j: usize = 0;
+    while j < end {
+        r += kept_count(ts, code, count, j);
+        j += 1;
+    }
+    r
+}
+
+// Of a constraint of k members, for n entrants.
+fn constraint_count(ms: [Member; Model::MEMBERS], k: usize, code: u32, count: u32, n: u32) -> u32
+    requires { ⌜ (k ≤ limits .members) × (n ≤ 32) ⌝ }
+    requires { ⌜ Fitting code count × Within k code count ⌝ }
+    requires { ⌜ length (memberClauses code count) ≤ 100 ⌝ }
+    requires { ⌜ T (every smallMember (take k ms)) ⌝ }
+    ensures { λ r. ⌜ (r ≡ constraintCount (take k ms) code count n) × (r ≤ 3200) ⌝ }
+{
+    let mut r = 0;
+    let mut e = 0;
+    while e < n {
+        let ts = member_terms(ms, k, e);
+        r += entrant_count(ts, code, count);
+        e += 1;
+    }
+    r
+}
