@@ -1,5 +1,5 @@
 -- `is_seen` asks the flags where they reach. Assumes nothing.
-use Prim.Native.Nat.{ℕ, suc, _-_}
+use Prim.Native.Nat.{suc, _-_}
 use mathlib.Core.Path.{_≡_, _∙_, ap}
 use lib.ListN.{take}
 use Rattle.model.specs.Assignment.{wordsOf}

@@ -1,5 +1,5 @@
 -- `line_form` judges the form of a `v` line. Assumes nothing.
-use mathlib.Core.Path.{_≡_, _∙_, sym, ap}
+use mathlib.Core.Path.{_∙_, sym, ap}
 use Rattle.model.specs.Assignment.{nothingSaid}
 use Rattle.assignment.specs.Line.{formFrom}
 use Rattle.assignment.proofs.Lines.{alone, spaced, joined}

@@ -1,7 +1,7 @@
 -- `literals_refusal` judges the literals of words in order. Invariant: what was looked at is noted, and judging all is judging the rest. Assumes nothing.
-use Prim.Native.Nat.{ℕ, _≤_, _<_, _+_, _-_}
-use mathlib.Core.Path.{_≡_, refl, _∙_, sym, ap, subst}
-use lib.ListN.{length, getD, take, drop}
+use Prim.Native.Nat.{_<_, _+_, _-_}
+use mathlib.Core.Path.{_∙_, sym, ap, subst}
+use lib.ListN.{length, getD, take}
 use Rattle.model.specs.Assignment.{wordsOf, isSaid, variable}
 use Rattle.assignment.specs.Line.{named, names?}
 use Rattle.assignment.proofs.Words.{k-le, word-size, isNames, not-names, noted-none}

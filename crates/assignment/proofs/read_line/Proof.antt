@@ -1,13 +1,12 @@
 -- `read_line` judges a line by its first byte and the state, and reads the others. Assumes nothing.
-use Prim.Native.Nat.{ℕ, _<_}
-use mathlib.Core.Path.{_≡_, refl, _∙_, sym, ap}
-use mathlib.Core.Bool.{Bool, true, false, not, _&&_, _||_}
+use Prim.Native.Nat.{ℕ}
+use mathlib.Core.Path.{_≡_, refl}
+use mathlib.Core.Bool.{Bool, true, false, not, _&&_}
 use mathlib.Core.List.{List, [], _∷_}
 use lib.Dec.{eqb}
 use lib.ListN.{length, getD}
 use Rattle.model.specs.declared.Reading.{Reading}
-use Rattle.model.specs.declared.LineRead.{LineRead}
-use Rattle.model.specs.Assignment.{formOf, saidRefusal, isPassedOver, callRefusal, isTaken, lineRead, valuesAfter}
+use Rattle.model.specs.Assignment.{isPassedOver, callRefusal, isTaken, lineRead, valuesAfter}
 use native.Mathlib.Omega.{arith}
 use borrow.Author.Tests.{ne-eqb}
 use borrow.Author.Needs.{needs}

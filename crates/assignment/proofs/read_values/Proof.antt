@@ -1,10 +1,6 @@
 -- `read_values` reads a `v` line: form, literals, and only then writes. Assumes nothing.
-use Prim.Native.Nat.{ℕ, _-_}
-use mathlib.Core.Path.{_≡_, refl, _∙_, sym, ap}
-use mathlib.Core.Option.{none, some}
-use lib.ListN.{length, take, drop}
-use Rattle.model.specs.Assignment.{nothingSaid, wordsOf, saidRefusal, literalsRefusal, withValues, formOf}
-use Rattle.assignment.specs.Line.{named}
+use Prim.Native.Nat.{_-_}
+use mathlib.Core.Path.{_∙_, sym}
 use Rattle.assignment.proofs.Lines.{out-wrong, out-alone, out-refused, out-taken}
 use borrow.Author.Needs.{needs}
 use Rattle.assignment.proofs.read_values.Statement.{statement}

@@ -1,11 +1,11 @@
 -- `variable_in` gives the variable that digits name. Assumes nothing.
-use mathlib.Core.Path.{_≡_, refl, _∙_, sym, ap}
+use mathlib.Core.Path.{_≡_, refl}
 use mathlib.Core.Option.{Option, none, some}
 use mathlib.Core.List.{List, [], _∷_}
-use mathlib.Core.Bool.{Bool, true, false, cond, not, _&&_}
+use mathlib.Core.Bool.{Bool, true, false, cond, _&&_}
 use Prim.Native.Nat.{ℕ, _≤_}
 use lib.ListN.{length, getD}
-use lib.Dec.{leb, ltb, eqb}
+use lib.Dec.{ltb}
 use Rattle.model.specs.declared.Digits.{Digits}
 use Rattle.model.specs.Sheet.{digitsAfter, asDigits, numberOf, shortNumber}
 use Rattle.model.specs.Assignment.{variableIn}

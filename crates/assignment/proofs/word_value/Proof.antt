@@ -1,18 +1,16 @@
 -- `word_value` tells what a word of a `v` line is. Assumes nothing.
 use mathlib.Core.Path.{_≡_, refl, _∙_, sym, ap}
-use mathlib.Core.Option.{Option, none, some}
+use mathlib.Core.Option.{none}
 use mathlib.Core.List.{List, [], _∷_}
-use mathlib.Core.Bool.{Bool, true, false, cond, not, _&&_}
-use Prim.Native.Nat.{ℕ, _≤_, _-_}
+use mathlib.Core.Bool.{Bool, true, false, cond, _&&_}
+use Prim.Native.Nat.{ℕ, _-_}
 use lib.ListN.{length, getD, take, drop}
 use lib.Seq.{take-all}
 use lib.Dec.{leb, eqb}
 use Rattle.model.specs.declared.Digits.{Digits}
 use Rattle.model.specs.declared.Digits.the-variants.{Number, Bad}
-use Rattle.model.specs.declared.Literal.{Literal}
 use Rattle.model.specs.declared.Literal.the-variants.{Pos, Neg}
-use Rattle.model.specs.declared.Word.{Word}
-use Rattle.model.specs.declared.Word.the-variants.{Names, Closing, Malformed}
+use Rattle.model.specs.declared.Word.the-variants.{Closing, Malformed}
 use Rattle.model.specs.Sheet.{numberOf}
 use Rattle.model.specs.Assignment.{variableIn, asLiteral, wordValue}
 use Rattle.assignment.specs.Line.{asOption}

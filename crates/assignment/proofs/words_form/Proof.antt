@@ -1,7 +1,6 @@
 -- `words_form` judges the form of words. Invariant: the form of all is the form of those from place `at` on. Assumes nothing.
-use Prim.Native.Nat.{ℕ, _≤_, _<_, _+_, _-_}
+use Prim.Native.Nat.{_≤_, _<_, _+_, _-_}
 use mathlib.Core.Path.{_≡_, refl, _∙_, sym, ap}
-use mathlib.Core.List.{List, [], _∷_}
 use lib.ListN.{length, drop}
 use Rattle.model.specs.Assignment.{wordsOf, sayWords}
 use Rattle.assignment.specs.Line.{formFrom}

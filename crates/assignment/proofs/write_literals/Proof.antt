@@ -1,7 +1,6 @@
 -- `write_literals` writes the literals of words. Invariant: what is still to be written is what stands from place `at` on. Assumes nothing.
-use Prim.Native.Nat.{ℕ, _≤_, _<_, _+_, _-_}
+use Prim.Native.Nat.{_≤_, _<_, _+_, _-_}
 use mathlib.Core.Path.{_≡_, refl, _∙_, sym, ap}
-use mathlib.Core.List.{List, [], _∷_}
 use lib.ListN.{length, drop, length-set}
 use Rattle.model.specs.Assignment.{wordsOf, literalsRefusal, withValues}
 use Rattle.assignment.specs.Line.{named}

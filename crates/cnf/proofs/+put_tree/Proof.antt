@@ -1,5 +1,5 @@
 -- `put_tree` writes a tree's clauses: its left half's, its right half's and the node's; the size falls at each call. Assumes nothing.
-use mathlib.Core.Path.{_≡_, refl, sym, ap, _∙_}
+use mathlib.Core.Path.{refl, sym, ap, _∙_}
 use Rattle.cnf.proofs.Writes.{done, then, same-text}
 use Rattle.encoding_laws.proofs.Counts.{output-count-step}
 use Rattle.cnf.proofs.Trees.{tree-one, tree-text, tree-length, small}

@@ -1,5 +1,5 @@
 -- `add_group` adds a group's open entrants, outputs and clauses. Assumes nothing.
-use mathlib.Core.Path.{_≡_, sym, ap, _∙_}
+use mathlib.Core.Path.{sym, ap, _∙_}
 use Rattle.model.specs.Totalizer.{treeOutputCount, treeClauseCount}
 use Rattle.encoding_laws.proofs.Bounds.{small-tree}
 use Rattle.cnf.proofs.Groups.{none-outputs, none-clauses, some-outputs, some-clauses, counter-parts}

@@ -1,7 +1,6 @@
 -- `any_true` tells whether one of the first terms is true. Assumes nothing.
-use mathlib.Core.Path.{_≡_, refl, sym, ap, _∙_}
-use Prim.Native.Nat.{ℕ, _-_, _≤_}
-use mathlib.Core.Bool.{Bool}
+use mathlib.Core.Path.{_≡_, refl, sym, _∙_}
+use Prim.Native.Nat.{_-_, _≤_}
 use lib.ListN.{take, drop}
 use Rattle.model.specs.declared.Term.the-variants.{Holds}
 use Rattle.model.specs.Lists.{any}

@@ -1,7 +1,7 @@
 -- `clause_terms` is a clause's terms. Assumes nothing.
 use mathlib.Core.Path.{_≡_, refl, sym, ap, _∙_}
 use mathlib.Core.List.{map}
-use Prim.Native.Nat.{ℕ, _-_, _≤_, _<_}
+use Prim.Native.Nat.{ℕ, _-_, _≤_}
 use lib.ListN.{length, take, length-set}
 use lib.Seq.{take-length}
 use Rattle.model.specs.declared.Literal.the-variants.{Pos}

@@ -1,8 +1,8 @@
 -- `constraint_count` counts the clauses that a constraint keeps. Assumes nothing.
-use mathlib.Core.Path.{_≡_, refl, sym, ap, _∙_}
+use mathlib.Core.Path.{_≡_, refl, ap, _∙_}
 use mathlib.Core.List.{map}
 use Prim.Native.Nat.{ℕ, _-_, _*_, _≤_}
-use lib.ListN.{length, take}
+use lib.ListN.{take}
 use Rattle.model.specs.Lists.{total, range}
 use Rattle.cnf.specs.Parts.{memberTerm, entrantCount, constraintCount}
 use Rattle.cnf.proofs.MemberTerms.{total-last, count-first}

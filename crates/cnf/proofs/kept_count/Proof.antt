@@ -1,5 +1,5 @@
 -- `kept_count` counts a clause that is kept. Assumes nothing.
-use mathlib.Core.Path.{_≡_, sym, ap, _∙_}
+use mathlib.Core.Path.{sym, _∙_}
 use Rattle.cnf.specs.Parts.{clauseOf}
 use Rattle.cnf.proofs.MemberTerms.{left-out, counted-once}
 use native.Mathlib.Omega.{arith}

@@ -1,5 +1,4 @@
 -- `member_of` is what a constraint asks of one of its groups. Assumes nothing.
-use mathlib.Core.Path.{_≡_, sym, ap, _∙_}
 use Prim.Native.Nat.{_-_}
 use Rattle.model.specs.Model.{zeroGroup}
 use Rattle.cnf.proofs.MemberTerms.{fewer, member-is}

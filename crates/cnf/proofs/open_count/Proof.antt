@@ -5,8 +5,6 @@ use Rattle.model.specs.Cnf.{openCount, openOf}
 use Rattle.model.proofs.Words.{size-ones}
 use Rattle.cnf.proofs.open_count.Statement.{statement}
 use Rattle.cnf.proofs.open_count.Tie as tie
-use Rattle.cnf.proofs.open_count.Reads as reads
-use Rattle.cnf.proofs.open_count.Lts as lts
 
 returns : tie.Need-returns
 unfolding openCount openOf less

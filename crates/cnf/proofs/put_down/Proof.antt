@@ -1,5 +1,5 @@
 -- `put_down` writes a node's down clause. Assumes nothing.
-use mathlib.Core.Path.{_≡_, ap, _∙_}
+use mathlib.Core.Path.{ap, _∙_}
 use lib.ListN.{length}
 use Rattle.model.specs.Totalizer.{oppositeTerm, down}
 use Rattle.cnf.proofs.Writes.{same-text}

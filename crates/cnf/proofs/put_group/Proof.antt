@@ -1,5 +1,5 @@
 -- `put_group` writes the clauses of a group's totalizer. Assumes nothing.
-use mathlib.Core.Path.{_≡_, sym, ap, _∙_}
+use mathlib.Core.Path.{sym, ap, _∙_}
 use lib.ListN.{length}
 use Rattle.cnf.proofs.Writes.{done, same-text}
 use Rattle.cnf.proofs.Groups.{none-text, some-open, some-outputs, counter-parts, counter-text}

@@ -1,5 +1,5 @@
 -- `put_member_clause` writes a clause of a constraint in the rest of a buffer. Assumes nothing.
-use mathlib.Core.Path.{_≡_, sym, ap, _∙_}
+use mathlib.Core.Path.{ap}
 use lib.ListN.{length}
 use Rattle.cnf.specs.Parts.{clauseOf}
 use Rattle.cnf.proofs.Writes.{tail, same-text, lent-length}

@@ -1,7 +1,7 @@
 -- `put_terms` writes the texts of the first terms. Assumes nothing.
-use mathlib.Core.Path.{_≡_, refl, sym, ap, _∙_}
+use mathlib.Core.Path.{_≡_, sym, ap}
 use Prim.Native.Nat.{ℕ, _-_, _≤_}
-use lib.ListN.{length, take}
+use lib.ListN.{take}
 use Rattle.model.specs.declared.Term.the-variants.{Holds}
 use Rattle.model.specs.Lists.{each}
 use Rattle.cnf.specs.Wrote.{Wrote}

@@ -1,6 +1,5 @@
 -- `put_totalizer` writes a totalizer's clauses: the tree's, then its units. Assumes nothing.
 use mathlib.Core.Path.{sym, _∙_}
-use Rattle.encoding_laws.proofs.Bounds.{small-tree}
 use Rattle.cnf.proofs.Writes.{then, same-text}
 use Rattle.cnf.proofs.Trees.{root-bound, totalizer-text, totalizer-length}
 use native.Mathlib.Omega.{arith}

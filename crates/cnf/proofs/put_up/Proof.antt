@@ -1,5 +1,5 @@
 -- `put_up` writes a node's up clause. Assumes nothing.
-use mathlib.Core.Path.{_≡_, ap, _∙_}
+use mathlib.Core.Path.{ap, _∙_}
 use lib.ListN.{length}
 use Rattle.model.specs.Totalizer.{oppositeTerm, up}
 use Rattle.cnf.proofs.Writes.{same-text}

@@ -1,10 +1,9 @@
 -- `sum_groups` adds up the first groups. Assumes nothing.
-use mathlib.Core.Path.{_≡_, refl, sym, ap, _∙_}
-use Prim.Native.Nat.{ℕ, _+_, _-_, _*_, _≤_, _<_}
+use mathlib.Core.Path.{_≡_, refl, ap, _∙_}
+use Prim.Native.Nat.{ℕ, _-_, _*_, _≤_, _<_}
 use lib.ListN.{length, take}
 use Rattle.model.specs.Lists.{total}
 use Rattle.model.specs.Model.{zeroGroup}
-use Rattle.model.specs.declared.Group.{Group}
 use Rattle.model.specs.Cnf.{openCount, outputsOf, groupClauseCount}
 use Rattle.cnf.proofs.Groups.{total-next, steady-at, group-bounds}
 use native.Mathlib.Omega.{arith}

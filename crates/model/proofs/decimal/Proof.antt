@@ -1,6 +1,6 @@
 -- `decimal` gives the number that digits stand for. Invariant: it is the number of the digits from i on, after v. Assumes nothing.
 use Prim.Native.Nat.{_≤_, _<_, _-_, _^_}
-use mathlib.Core.Path.{_≡_, _∙_, sym, ap, refl}
+use mathlib.Core.Path.{_≡_, _∙_, sym, ap}
 use lib.ListN.{length, drop}
 use Rattle.model.specs.Sheet.{digitsAfter, asDigits, shortNumber}
 use Rattle.model.proofs.Numbers.{digits-more, digits-low, digits-high, digits-end, ten-more, ten-le}

@@ -1,7 +1,7 @@
 -- `group_in_range` is the test of one group. Assumes nothing.
 use Prim.Native.Nat.{ℕ, _^_, _*_, _%_, _≤_}
 use mathlib.Core.Path.{_≡_, _∙_}
-use mathlib.Core.Bool.{Bool, true, false, _&&_}
+use mathlib.Core.Bool.{Bool, true, _&&_}
 use native.Mathlib.Nat.{one-mul}
 use lib.Pow.{shl-exact}
 use Rattle.model.specs.Words.{inside}

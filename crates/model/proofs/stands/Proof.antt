@@ -1,5 +1,5 @@
 -- `stands` looks for x from place i on. Invariant: the answer is that of the places from j on. Assumes nothing.
-use Prim.Native.Nat.{_≤_, _-_}
+use Prim.Native.Nat.{_-_}
 use mathlib.Core.Path.{_≡_, refl}
 use lib.Dec.{eqb}
 use lib.ListN.{drop, take}

@@ -7,9 +7,6 @@ use Rattle.propagate.proofs.Members.{constraint-at}
 use native.Mathlib.Omega.{arith}
 use Rattle.propagate.proofs.constraint_rules.Statement.{statement}
 use Rattle.propagate.proofs.constraint_rules.Tie as tie
-use Rattle.propagate.proofs.constraint_rules.Reads as reads
-use Rattle.propagate.proofs.constraint_rules.Lts as lts
-use Rattle.propagate.proofs.constraint_rule.Reads as constraint-rule-reads
 
 abbrev Inv-loop : tie.InvT-loop
 Inv-loop fixed₀ possible₀ n c constraints j₀ fixed possible j = (j ≤ c) × ConstraintsLeft n (take c constraints) fixed₀ possible₀ j fixed possible

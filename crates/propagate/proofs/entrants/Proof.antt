@@ -8,8 +8,6 @@ use native.Mathlib.Omega.{arith}
 use borrow.Author.Needs.{needs}
 use Rattle.propagate.proofs.entrants.Statement.{statement}
 use Rattle.propagate.proofs.entrants.Tie as tie
-use Rattle.propagate.proofs.entrants.Reads as reads
-use Rattle.propagate.proofs.entrants.Lts as lts
 
 -- `1 << n` is 2 to the n
 power : (n : ℕ) → n ≤ 32 → 1 * 2 ^ n % 2 ^ 64 ≡ 2 ^ n

@@ -4,13 +4,6 @@ use borrow.Author.Tests.{not-true, not-false}
 use borrow.Author.Needs.{needs}
 use Rattle.propagate.proofs.is_fixpoint.Statement.{statement}
 use Rattle.propagate.proofs.is_fixpoint.Tie as tie
-use Rattle.propagate.proofs.is_fixpoint.Reads as reads
-use Rattle.propagate.proofs.is_fixpoint.Lts as lts
-use Rattle.model.proofs.Model.in_range.Reads as in-range-reads
-use Rattle.propagate.proofs.passed.Reads as passed-reads
-use Rattle.propagate.proofs.same_table.Reads as same-table-reads
-use Rattle.propagate.proofs.table_consistent.Reads as table-consistent-reads
-use Rattle.propagate.proofs.unpacked.Reads as unpacked-reads
 
 in-range-requires : tie.Need-in-range-requires
 in-range-requires c κs = search needs

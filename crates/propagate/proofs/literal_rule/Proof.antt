@@ -5,12 +5,6 @@ use native.Mathlib.Omega.{arith}
 use borrow.Author.Needs.{needs}
 use Rattle.propagate.proofs.literal_rule.Statement.{statement}
 use Rattle.propagate.proofs.literal_rule.Tie as tie
-use Rattle.propagate.proofs.literal_rule.Reads as reads
-use Rattle.propagate.proofs.literal_rule.Lts as lts
-use Rattle.constraint.proofs.literal_at.Reads as literal-at-reads
-use Rattle.propagate.proofs.entrants.Reads as entrants-reads
-use Rattle.propagate.proofs.literals_false.Reads as literals-false-reads
-use Rattle.propagate.proofs.make_true.Reads as make-true-reads
 
 entrants-requires : tie.Need-entrants-requires
 entrants-requires c κs = search needs

@@ -10,15 +10,6 @@ use borrow.Author.Needs.{needs}
 use borrow.Author.Tests.{not-true, not-false}
 use Rattle.propagate.proofs.propagate.Statement.{statement}
 use Rattle.propagate.proofs.propagate.Tie as tie
-use Rattle.propagate.proofs.propagate.Reads as reads
-use Rattle.propagate.proofs.propagate.Lts as lts
-use Rattle.model.proofs.Model.in_range.Reads as in-range-reads
-use Rattle.propagate.proofs.done.Reads as done-reads
-use Rattle.propagate.proofs.passed.Reads as passed-reads
-use Rattle.propagate.proofs.refused.Reads as refused-reads
-use Rattle.propagate.proofs.same_table.Reads as same-table-reads
-use Rattle.propagate.proofs.table_consistent.Reads as table-consistent-reads
-use Rattle.propagate.proofs.unpacked.Reads as unpacked-reads
 
 abbrev Inv-loop : tie.InvT-loop
 Inv-loop m s c constraints fuel t₀ k₀ t k = Whole (groupsIn t) × (outcome m ≡ Left m k (take (m .s) (groupsIn t)))

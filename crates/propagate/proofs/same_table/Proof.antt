@@ -10,9 +10,6 @@ use borrow.Author.Needs.{needs}
 use borrow.Author.Tests.{not-true, not-false}
 use Rattle.propagate.proofs.same_table.Statement.{statement}
 use Rattle.propagate.proofs.same_table.Tie as tie
-use Rattle.propagate.proofs.same_table.Reads as reads
-use Rattle.propagate.proofs.same_table.Lts as lts
-use Rattle.propagate.proofs.same_group.Reads as same-group-reads
 
 abbrev Inv-loop : tie.InvT-loop
 Inv-loop s a b i₀ i = (i ≤ s) × (sameTable (take s (groupsIn a)) (take s (groupsIn b)) ≡ sameTable (drop i (take s (groupsIn a))) (drop i (take s (groupsIn b))))

@@ -13,9 +13,6 @@ use borrow.Author.Needs.{needs}
 use borrow.Author.Tests.{not-true, not-false}
 use Rattle.propagate.proofs.table_consistent.Statement.{statement}
 use Rattle.propagate.proofs.table_consistent.Tie as tie
-use Rattle.propagate.proofs.table_consistent.Reads as reads
-use Rattle.propagate.proofs.table_consistent.Lts as lts
-use Rattle.propagate.proofs.group_consistent.Reads as group-consistent-reads
 
 abbrev Inv-loop : tie.InvT-loop
 Inv-loop s t i₀ i = (i ≤ s) × (every groupConsistent (take s (groupsIn t)) ≡ every groupConsistent (drop i (take s (groupsIn t))))

@@ -5,8 +5,6 @@ use Rattle.propagate.proofs.Arrays.{Read, read-none, read-next, read-al
 use native.Mathlib.Omega.{arith}
 use Rattle.propagate.proofs.unpacked.Statement.{statement}
 use Rattle.propagate.proofs.unpacked.Tie as tie
-use Rattle.propagate.proofs.unpacked.Reads as reads
-use Rattle.propagate.proofs.unpacked.Lts as lts
 
 abbrev Inv-loop : tie.InvT-loop
 Inv-loop groups fixed₀ possible₀ low₀ high₀ i₀ fixed possible low high i = (i ≤ 256) × Read groups i fixed possible low high

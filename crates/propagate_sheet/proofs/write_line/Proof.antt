@@ -1,5 +1,4 @@
 -- `write_line` writes the first fields of a line and a newline. Assumes nothing.
-use mathlib.Core.Path.{sym, _∙_}
 use lib.ListN.{length-set, length-take}
 use Prim.Native.Nat.{_*_, _+_}
 use native.Mathlib.Omega.{arith}

@@ -1,6 +1,6 @@
 -- `constraint_refusal` judges a constraint line. Assumes nothing.
 use Prim.Native.Nat.{ℕ, _≤_, _+_, _/_}
-use mathlib.Core.Path.{_≡_, refl, _∙_, sym, ap, ap₂}
+use mathlib.Core.Path.{_≡_, refl, _∙_, sym, ap₂}
 use mathlib.Core.Bool.{Bool, true, false, cond, not}
 use mathlib.Core.List.{List}
 use lib.Dec.{eqb}

@@ -1,6 +1,6 @@
 -- `form_refusal` judges refusals 3 and 4. Invariant: the test of all fields is the test of those from i on. Assumes nothing.
 use Prim.Native.Nat.{_-_, _/_}
-use mathlib.Core.Path.{_≡_, _∙_, refl}
+use mathlib.Core.Path.{_≡_}
 use mathlib.Core.Bool.{true, false}
 use native.Mathlib.Nat.{sub-zero}
 use lib.ListN.{length}

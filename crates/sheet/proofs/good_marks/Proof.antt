@@ -1,8 +1,7 @@
 -- `good_marks` tests every mark of a group line. Invariant: the test of all is the test of those from e on. Assumes nothing.
-use Prim.Native.Nat.{_≤_, _+_, _-_}
-use mathlib.Core.Path.{_≡_, _∙_, sym, ap}
+use Prim.Native.Nat.{_≤_, _-_}
+use mathlib.Core.Path.{_≡_, sym}
 use native.Mathlib.Nat.{sub-zero}
-use lib.Dec.{leb}
 use Rattle.model.specs.Lists.{every, range}
 use Rattle.model.specs.Sheet.{markAt}
 use Rattle.model.proofs.Loops.{range-goes, range-stops, range-done}

@@ -1,6 +1,5 @@
 -- `read_constraint` gives the constraint of a constraint line. Assumes nothing.
-use mathlib.Core.Path.{_≡_, _∙_, sym, ap, refl}
-use Rattle.model.specs.Sheet.{valueAt, countFrom, constraintFrom}
+use Rattle.model.specs.Sheet.{constraintFrom}
 use borrow.Author.Needs.{needs}
 use Rattle.sheet.proofs.read_constraint.Statement.{statement}
 use Rattle.sheet.proofs.read_constraint.Tie as tie

@@ -1,9 +1,9 @@
 -- `read_numbers` gives the numbers of a constraint line's groups. Invariant: the first i of them, then zeros. Assumes nothing.
 use Prim.Native.Nat.{ℕ, _≤_, _<_, _+_, _-_}
-use mathlib.Core.Path.{_≡_, _∙_, sym, ap, refl}
+use mathlib.Core.Path.{_≡_, _∙_, refl}
 use mathlib.Core.List.{List, _++_, map}
 use mathlib.Core.Bool.{Bool, true, false, cond}
-use lib.ListN.{length, replicate, set}
+use lib.ListN.{replicate, set}
 use lib.Dec.{eqb}
 use Rattle.model.specs.Lists.{range}
 use Rattle.model.specs.Sheet.{valueAt, firstGroup, groupCount, constraintFrom}

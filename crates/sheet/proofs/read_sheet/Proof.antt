@@ -1,8 +1,8 @@
 -- `read_sheet` reads a sheet line by line. Invariant: reading the whole sheet is reading the rest from this state. Assumes nothing.
-use Prim.Native.Nat.{ℕ, _≤_, _+_, _-_}
-use mathlib.Core.Path.{_≡_, _∙_, sym, ap, refl}
+use Prim.Native.Nat.{_-_}
+use mathlib.Core.Path.{_∙_, sym}
 use mathlib.Core.Logic.{⊎-elim}
-use lib.ListN.{length, drop}
+use lib.ListN.{length}
 use Rattle.model.specs.Sheet.{readSheet, afterLast}
 use Rattle.sheet.proofs.Reading.{Halfway, at-start, constraint-place, constraint-small, at-end, part-fits, part-length, part-stops, part-goes, head-made, group-made, constraint-made}
 use native.Mathlib.Omega.{arith}

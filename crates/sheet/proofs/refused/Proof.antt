@@ -1,5 +1,4 @@
 -- `refused` gives a refusal, its line and the zero model. Assumes nothing.
-use mathlib.Core.Path.{_≡_, sym, ap}
 use Rattle.model.specs.Sheet.{refusedSheet}
 use borrow.Author.Needs.{needs}
 use Rattle.sheet.proofs.refused.Statement.{statement}
