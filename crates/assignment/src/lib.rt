@@ -14,7 +14,7 @@ use model::Reading;
 use model::Word;
 
 // The form of a `v` line: wrong, good, or good with a closing 0.
-pub enum Form {
+enum Form {
     Wrong,
     Open,
     Closed,

@@ -73,13 +73,13 @@ fn explain_model(fd: i32, refusal: u32) {
 }
 
 // `refused N`
-pub fn number(fd: i32, refusal: u32) {
+fn number(fd: i32, refusal: u32) {
     say(fd, b"refused ");
     io::print_decimal(fd, refusal as u64);
 }
 
 // A line of what refusal N means.
-pub fn meaning(fd: i32, refusal: u32) {
+fn meaning(fd: i32, refusal: u32) {
     if refusal < 10 {
         explain_sheet(fd, refusal);
         return;
