@@ -20,7 +20,6 @@ use Rattle.model.specs.Cnf.{openCount, atLeast, atMost, counted, firstVariable}
 use Rattle.model.specs.Totalizer.{Output, oppositeTerm, keep, up, down, putIn, nodeClauses, shape, treeClauses, unit, totalizerClauses}
 use Rattle.model.specs.Text.{decimal, literalText, clauseText}
 use Rattle.cnf.specs.declared.Node.{Node}
-use Rattle.cnf.specs.declared.Counter.{Counter}
 use Rattle.cnf.specs.declared.Member.{Member}
 
 -- a number and a space
@@ -64,10 +63,6 @@ unitText s first i = clauseText (unit (signed s) first i)
 -- the text of a group's totalizer, its variables from v on and the outputs from o on
 unfoldable pub groupText : Group → ℕ → ℕ → List ℕ
 groupText g v o = each clauseText (cond (counted g) (totalizerClauses (openCount g) v o (atLeast g) (atMost g)) [])
-
--- m, L and U
-unfoldable pub counterOf : Group → Counter
-counterOf g = record { free = openCount g; low = atLeast g; high = atMost g; exists = counted g }
 
 -- ---- a constraint
 

@@ -9,11 +9,12 @@ ghost use Rattle.model.specs.Lists.{any, each, every, between, range, total};
 ghost use Rattle.model.specs.Limits.{limits};
 ghost use Rattle.model.specs.Clauses.{memberClauses};
 ghost use Rattle.model.specs.Totalizer.{oppositeTerm, holds, output, shape, rootOutput, up, down, totalizerClauses, treeOutputCount, treeClauseCount};
-ghost use Rattle.model.specs.Cnf.{openCount, outputsOf, groupClauseCount};
+ghost use Rattle.model.specs.Cnf.{openCount, outputsOf, groupClauseCount, constraintClauses, firstVariable};
 ghost use Rattle.model.specs.Assignment.{variable};
 ghost use Rattle.model.specs.Text.{decimal, literalText, clauseText};
+ghost use Rattle.numbering.specs.Counter.{firstVariables, firstOutputs};
 ghost use Rattle.cnf.specs.Wrote.{Wrote};
-ghost use Rattle.cnf.specs.Parts.{spaced, termText, keptText, outputText, pairText, rowText, nodeText, treeText, signed, unitText, groupText, counterOf, memberOf, memberTerm, smallMember, literalTerm, clauseOf, memberClauseText, entrantText, constraintText, keptCount, entrantCount, constraintCount, Small, Steady, Steadies, Fitting, Within};
+ghost use Rattle.cnf.specs.Parts.{spaced, termText, keptText, outputText, pairText, rowText, nodeText, treeText, signed, unitText, groupText, memberOf, memberTerm, smallMember, literalTerm, clauseOf, memberClauseText, entrantText, constraintText, keptCount, entrantCount, constraintCount, Small, Steady, Steadies, Fitting, Within};
 use model::Group;
 use model::Literal;
 use model::Model;
@@ -157,16 +158,42 @@ fn opposite(t: Term) -> Term
     }
 }
 
-// The clause of three terms, in the part of buf from at on.
+// Whether one of three terms is true.
+fn one_true(x: Term, y: Term, z: Term) -> bool
+    ensures { λ r. ⌜ r ≡ any holds (x ∷ y ∷ z ∷ []) ⌝ }
+{
+    if is_true(x) {
+        return true;
+    }
+    if is_true(y) {
+        return true;
+    }
+    is_true(z)
+}
+
+// The clause of three terms at the start of buf: nothing where one of them is true.
+fn put_short(buf: &mut [u8], x: Term, y: Term, z: Term) -> usize
+    requires { ⌜ length (keptText (x ∷ y ∷ z ∷ [])) ≤ length (now buf) ⌝ }
+    ensures { λ r. ⌜ Wrote (keptText (x ∷ y ∷ z ∷ [])) 0 (now (buf .entry)) (now (buf .exit)) r ⌝ }
+{
+    if one_true(x, y, z) {
+        return 0;
+    }
+    let a = put_term(buf, 0, x);
+    let b = put_term(buf, a, y);
+    let c = put_term(buf, b, z);
+    buf[c] = 48;
+    let d = c + 1;
+    buf[d] = 10;
+    d + 1
+}
+
+// The same in the part of buf from at on.
 fn put_three(buf: &mut [u8], at: usize, x: Term, y: Term, z: Term) -> usize
     requires { ⌜ at + length (keptText (x ∷ y ∷ z ∷ [])) ≤ length (now buf) ⌝ }
     ensures { λ r. ⌜ Wrote (keptText (x ∷ y ∷ z ∷ [])) at (now (buf .entry)) (now (buf .exit)) r ⌝ }
 {
-    let mut ts = [Term::Fails; Model::MEMBERS];
-    ts[0] = x;
-    ts[1] = y;
-    ts[2] = z;
-    let n = put_clause(&mut buf[at..], ts, 3);
+    let n = put_short(&mut buf[at..], x, y, z);
     at + n
 }
 
@@ -246,43 +273,6 @@ fn put_node(buf: &mut [u8], at: usize, t: Node) -> usize
     n
 }
 
-// "outputs A(1) = 0, A(m) = m + A(left) + A(right)", for sizes up to 32.
-const OUTPUTS: [u32; 33] = [
-    0,
-    0,
-    2,
-    5,
-    8,
-    12,
-    16,
-    20,
-    24,
-    29,
-    34,
-    39,
-    44,
-    49,
-    54,
-    59,
-    64,
-    70,
-    76,
-    82,
-    88,
-    94,
-    100,
-    106,
-    112,
-    118,
-    124,
-    130,
-    136,
-    142,
-    148,
-    154,
-    160,
-];
-
 // "Tree clauses T(1) = 0, T(m) = T(left) + T(right) + 2(a+1)(b+1) - 2".
 const CLAUSES: [u32; 33] = [
     0,
@@ -320,11 +310,12 @@ const CLAUSES: [u32; 33] = [
     1312,
 ];
 
+// The outputs of a tree of size m.
 fn output_count(m: u32) -> u32
     requires { ⌜ m ≤ 32 ⌝ }
     ensures { λ r. ⌜ r ≡ treeOutputCount m ⌝ }
 {
-    OUTPUTS[m as usize]
+    numbering::output_count(m)
 }
 
 fn clause_count(m: u32) -> u32
@@ -416,38 +407,6 @@ fn put_totalizer(buf: &mut [u8], at: usize, m: u32, v: u32, o: u32, low: u32, hi
 
 // ---- a group
 
-// How many entrants are open.
-fn open_count(g: Group) -> u32
-    ensures { λ r. ⌜ r ≡ openCount g ⌝ }
-{
-    u64::count_ones(g.possible ^ (g.possible & g.fixed))
-}
-
-// m, L and U of a group, and whether it has a totalizer.
-struct Counter {
-    free: u32,
-    low: u32,
-    high: u32,
-    exists: bool,
-}
-
-fn counter_of(g: Group) -> Counter
-    requires { ⌜ Steady g ⌝ }
-    ensures { λ r. ⌜ r ≡ counterOf g ⌝ }
-{
-    let free = open_count(g);
-    let fixed = u64::count_ones(g.fixed);
-    let low = g.low - fixed;
-    let high = g.high - fixed;
-    let exists = 0 < low || high < free;
-    Counter {
-        free,
-        low,
-        high,
-        exists,
-    }
-}
-
 // The clauses of a group's totalizer, if it has one; its variables start at v and the outputs at o.
 fn put_group(buf: &mut [u8], at: usize, g: Group, v: u32, o: u32) -> usize
     requires { ⌜ Steady g ⌝ }
@@ -455,60 +414,39 @@ fn put_group(buf: &mut [u8], at: usize, g: Group, v: u32, o: u32) -> usize
     requires { ⌜ at + length (groupText g v o) ≤ length (now buf) ⌝ }
     ensures { λ r. ⌜ Wrote (groupText g v o) at (now (buf .entry)) (now (buf .exit)) r ⌝ }
 {
-    let c = counter_of(g);
+    let c = numbering::counter_of(g);
     if !c.exists {
         return at;
     }
     put_totalizer(buf, at, c.free, v, o, c.low, c.high)
 }
 
-// What the groups before a place have in all: open entrants, outputs and clauses.
-struct Sums {
-    free: u32,
-    outputs: u32,
-    clauses: u32,
-}
-
-fn add_group(t: Sums, g: Group) -> Sums
+// How many clauses these are.
+fn group_count(g: Group) -> u32
     requires { ⌜ Steady g ⌝ }
-    requires { ⌜ (t .free < 1000000) × (t .outputs < 1000000) × (t .clauses < 1000000) ⌝ }
-    ensures { λ r. ⌜ (r .free ≡ t .free + openCount g) × (r .outputs ≡ t .outputs + outputsOf g) × (r .clauses ≡ t .clauses + groupClauseCount g) ⌝ }
+    ensures { λ r. ⌜ (r ≡ groupClauseCount g) × (r ≤ 1344) ⌝ }
 {
-    let c = counter_of(g);
+    let c = numbering::counter_of(g);
     if !c.exists {
-        return Sums {
-            free: t.free + c.free,
-            outputs: t.outputs,
-            clauses: t.clauses,
-        };
+        return 0;
     }
-    Sums {
-        free: t.free + c.free,
-        outputs: t.outputs + output_count(c.free),
-        clauses: t.clauses + (clause_count(c.free) + c.low + (c.free - c.high)),
-    }
+    clause_count(c.free) + c.low + (c.free - c.high)
 }
 
-// The first k groups.
-fn sum_groups(groups: [Group; Model::GROUPS], k: usize) -> Sums
-    requires { ⌜ k ≤ limits .groups ⌝ }
-    requires { ⌜ Steadies (take k groups) ⌝ }
-    ensures { λ r. ⌜ (r .free ≡ total openCount (take k groups)) × (r .outputs ≡ total outputsOf (take k groups)) × (r .clauses ≡ total groupClauseCount (take k groups)) ⌝ }
-    ensures { λ r. ⌜ (r .free ≤ 8192) × (r .outputs ≤ 40960) × (r .clauses ≤ 344064) ⌝ }
+// Of the first s groups.
+fn sum_groups(groups: [Group; Model::GROUPS], s: usize) -> u32
+    requires { ⌜ s ≤ limits .groups ⌝ }
+    requires { ⌜ Steadies (take s groups) ⌝ }
+    ensures { λ r. ⌜ (r ≡ total groupClauseCount (take s groups)) × (r ≤ 344064) ⌝ }
 {
-    let mut t = Sums {
-        free: 0,
-        outputs: 0,
-        clauses: 0,
-    };
+    let mut r = 0;
     let mut i: usize = 0;
-    while i < k {
+    while i < s {
         let g = groups[i];
-        let u = add_group(t, g);
-        t = u;
+        r += group_count(g);
         i += 1;
     }
-    t
+    r
 }
 
 // ---- a constraint
@@ -520,31 +458,16 @@ struct Member {
     first: u32,
 }
 
-// Group g of the first s.
-fn member_of(groups: [Group; Model::GROUPS], s: usize, g: usize) -> Member
-    requires { ⌜ (s ≤ limits .groups) × (1 ≤ g) × (g ≤ s) ⌝ }
-    requires { ⌜ Steadies (take s groups) ⌝ }
-    ensures { λ r. ⌜ r ≡ memberOf (take s groups) g ⌝ }
-{
-    let i = g - 1;
-    let t = sum_groups(groups, i);
-    let x = groups[i];
-    Member {
-        fixed: x.fixed,
-        possible: x.possible,
-        first: 1 + t.free,
-    }
-}
-
-// The first k groups of a constraint.
+// The first k groups of a constraint, of the first s; first has each group's first variable.
 fn members(
     groups: [Group; Model::GROUPS],
     s: usize,
+    first: [u32; Model::GROUPS],
     ids: [u32; Model::MEMBERS],
     k: usize,
 ) -> [Member; Model::MEMBERS]
     requires { ⌜ (s ≤ limits .groups) × (k ≤ limits .members) ⌝ }
-    requires { ⌜ Steadies (take s groups) ⌝ }
+    requires { ⌜ first ≡ firstVariables (take s groups) ⌝ }
     requires { ⌜ T (every (between 1 s) (take k ids)) ⌝ }
     ensures { λ r. ⌜ (length r ≡ limits .members) × (take k r ≡ map (memberOf (take s groups)) (take k ids)) ⌝ }
 {
@@ -556,7 +479,13 @@ fn members(
     let mut r = [none; Model::MEMBERS];
     let mut i: usize = 0;
     while i < k {
-        r[i] = member_of(groups, s, ids[i] as usize);
+        let g = ids[i] as usize - 1;
+        let x = groups[g];
+        r[i] = Member {
+            fixed: x.fixed,
+            possible: x.possible,
+            first: first[g],
+        };
         i += 1;
     }
     r
