@@ -6,3 +6,4 @@ pub mod Trees
 pub mod Groups
 pub mod MemberTerms
 pub mod Lines
+pub mod Settled

@@ -7,7 +7,7 @@ use Rattle.model.specs.declared.Literal.{Literal}
 use Rattle.model.specs.declared.Literal.the-variants.{Pos, Neg}
 use Rattle.model.specs.declared.Term.{Term}
 use Rattle.model.specs.declared.Term.the-variants.{Holds, Fails, Open}
-use lib.Dec.{ltb}
+use lib.Dec.{T, ltb}
 use lib.ListN.{length, getD}
 use Rattle.model.specs.declared.Group.{Group}
 use Rattle.model.specs.Lists.{each, range, total}
@@ -15,7 +15,10 @@ use Rattle.model.specs.Words.{less, size, has}
 use Rattle.model.specs.Limits.{limits}
 use Rattle.model.specs.Clauses.{memberClauses}
 use Rattle.model.specs.Assignment.{variable}
-use Rattle.model.specs.Model.{zeroGroup, groupAt}
+use Rattle.model.specs.declared.Model.{Model}
+use Rattle.model.specs.Model.{zeroGroup, groupAt, inRange}
+use Rattle.model.specs.Propagate.{isFixpoint}
+use Rattle.encoding_laws.proofs.Sized.{Sized}
 use Rattle.model.specs.Cnf.{openCount, atLeast, atMost, counted, firstVariable}
 use Rattle.model.specs.Totalizer.{Output, oppositeTerm, keep, up, down, putIn, nodeClauses, shape, treeClauses, unit, totalizerClauses}
 use Rattle.model.specs.Text.{decimal, literalText, clauseText}
@@ -131,3 +134,15 @@ pub record Small (t : Node) : Type 0 where
   pub lefts : t .c + t .left < 100000
   pub rights : t .d + t .right < 100000
   pub owns : t .own + (t .left + t .right) < 100000
+
+-- ---- a model that may be listed
+
+-- `p cnf V C` and byte 10
+unfoldable pub countsText : ℕ → ℕ → List ℕ
+countsText v c = ((112 ∷ 32 ∷ 99 ∷ 110 ∷ 102 ∷ 32 ∷ []) ++ spaced v) ++ decimal c ++ (10 ∷ [])
+
+-- in range, at its fixpoint, and with lists as long as its arrays
+pub record Settled (m : Model) : Type 0 where
+  pub range-is : T (inRange m)
+  pub fixpoint : T (isFixpoint m)
+  pub sized : Sized m

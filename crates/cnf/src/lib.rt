@@ -11,14 +11,17 @@ ghost use Rattle.model.specs.Clauses.{memberClauses};
 ghost use Rattle.model.specs.Totalizer.{oppositeTerm, holds, output, shape, rootOutput, up, down, totalizerClauses, treeOutputCount, treeClauseCount};
 ghost use Rattle.model.specs.Cnf.{openCount, outputsOf, groupClauseCount, constraintClauses, firstVariable};
 ghost use Rattle.model.specs.Assignment.{variable};
-ghost use Rattle.model.specs.Text.{decimal, literalText, clauseText};
+ghost use Rattle.model.specs.Model.{tableOf, constraintInRange};
+ghost use Rattle.model.specs.Text.{decimal, literalText, clauseText, headerText, blockText, writtenBlock, blockBuffer};
 ghost use Rattle.numbering.specs.Counter.{firstVariables, firstOutputs};
 ghost use Rattle.cnf.specs.Wrote.{Wrote};
-ghost use Rattle.cnf.specs.Parts.{spaced, termText, keptText, outputText, pairText, rowText, nodeText, treeText, signed, unitText, groupText, memberOf, memberTerm, smallMember, literalTerm, clauseOf, memberClauseText, entrantText, constraintText, keptCount, entrantCount, constraintCount, Small, Steady, Steadies, Fitting, Within};
+ghost use Rattle.cnf.specs.Parts.{spaced, termText, keptText, outputText, pairText, rowText, nodeText, treeText, signed, unitText, groupText, memberOf, memberTerm, smallMember, literalTerm, clauseOf, memberClauseText, entrantText, constraintText, keptCount, entrantCount, constraintCount, countsText, Small, Steady, Steadies, Fitting, Within, Settled};
+use model::Constraint;
 use model::Group;
 use model::Literal;
 use model::Model;
 use model::Term;
+use model::Written;
 
 // ---- a clause
 
@@ -470,6 +473,7 @@ fn members(
     requires { ⌜ first ≡ firstVariables (take s groups) ⌝ }
     requires { ⌜ T (every (between 1 s) (take k ids)) ⌝ }
     ensures { λ r. ⌜ (length r ≡ limits .members) × (take k r ≡ map (memberOf (take s groups)) (take k ids)) ⌝ }
+    ensures { λ r. ⌜ length ids ≡ limits .members ⌝ }
 {
     let none = Member {
         fixed: 0,
@@ -669,4 +673,186 @@ fn constraint_count(ms: [Member; Model::MEMBERS], k: usize, code: u32, count: u3
         e += 1;
     }
     r
+}
+
+// ---- the lines of a sheet
+
+// The clauses of constraint c among the first s groups.
+fn put_line(
+    buf: &mut [u8],
+    at: usize,
+    groups: [Group; Model::GROUPS],
+    s: usize,
+    first: [u32; Model::GROUPS],
+    c: Constraint,
+    n: u32,
+) -> usize
+    requires { ⌜ (s ≤ limits .groups) × (n ≤ 32) ⌝ }
+    requires { ⌜ Steadies (take s groups) × (first ≡ firstVariables (take s groups)) ⌝ }
+    requires { ⌜ T (constraintInRange s c) ⌝ }
+    requires { ⌜ at + length (each clauseText (constraintClauses n (take s groups) c)) ≤ length (now buf) ⌝ }
+    ensures { λ r. ⌜ Wrote (each clauseText (constraintClauses n (take s groups) c)) at (now (buf .entry)) (now (buf .exit)) r ⌝ }
+{
+    let k = model::member_count(c.code, c.count);
+    let ids = c.groups;
+    let ms = members(groups, s, first, ids, k);
+    put_constraint(buf, at, ms, k, c.code, c.count, n)
+}
+
+// How many they are.
+fn line_count(
+    groups: [Group; Model::GROUPS],
+    s: usize,
+    first: [u32; Model::GROUPS],
+    c: Constraint,
+    n: u32,
+) -> u32
+    requires { ⌜ (s ≤ limits .groups) × (n ≤ 32) ⌝ }
+    requires { ⌜ Steadies (take s groups) × (first ≡ firstVariables (take s groups)) ⌝ }
+    requires { ⌜ T (constraintInRange s c) ⌝ }
+    ensures { λ r. ⌜ (r ≡ length (constraintClauses n (take s groups) c)) × (r ≤ 3200) ⌝ }
+{
+    let k = model::member_count(c.code, c.count);
+    let ids = c.groups;
+    let ms = members(groups, s, first, ids, k);
+    constraint_count(ms, k, c.code, c.count, n)
+}
+
+// Of the first c constraints.
+fn sum_lines(
+    groups: [Group; Model::GROUPS],
+    s: usize,
+    first: [u32; Model::GROUPS],
+    constraints: [Constraint; Model::CONSTRAINTS],
+    c: usize,
+    n: u32,
+) -> u32
+    requires { ⌜ (s ≤ limits .groups) × (n ≤ 32) × (c ≤ limits .constraints) ⌝ }
+    requires { ⌜ Steadies (take s groups) × (first ≡ firstVariables (take s groups)) ⌝ }
+    requires { ⌜ T (every (constraintInRange s) (take c constraints)) ⌝ }
+    ensures { λ r. ⌜ (r ≡ total (λ x. length (constraintClauses n (take s groups) x)) (take c constraints)) × (r ≤ 819200) ⌝ }
+{
+    let mut r = 0;
+    let mut j: usize = 0;
+    while j < c {
+        let x = constraints[j];
+        r += line_count(groups, s, first, x, n);
+        j += 1;
+    }
+    r
+}
+
+// ---- blocks
+
+// `p cnf ` with the space after it.
+fn put_title(buf: &mut [u8], at: usize) -> usize
+    requires { ⌜ at + 6 ≤ length (now buf) ⌝ }
+    ensures { λ r. ⌜ Wrote (112 ∷ 32 ∷ 99 ∷ 110 ∷ 102 ∷ 32 ∷ []) at (now (buf .entry)) (now (buf .exit)) r ⌝ }
+{
+    buf[at] = 112;
+    let b = at + 1;
+    buf[b] = 32;
+    let c = b + 1;
+    buf[c] = 99;
+    let d = c + 1;
+    buf[d] = 110;
+    let e = d + 1;
+    buf[e] = 102;
+    let f = e + 1;
+    buf[f] = 32;
+    f + 1
+}
+
+// `p cnf V C` and byte 10.
+fn put_counts(buf: &mut [u8], at: usize, v: u32, c: u32) -> usize
+    requires { ⌜ at + length (countsText v c) ≤ length (now buf) ⌝ }
+    ensures { λ r. ⌜ Wrote (countsText v c) at (now (buf .entry)) (now (buf .exit)) r ⌝ }
+{
+    let x = put_title(buf, at);
+    let y = put_spaced(buf, x, v);
+    let z = put_number(buf, y, c);
+    buf[z] = 10;
+    z + 1
+}
+
+// Block 0.
+fn put_header(buf: &mut [u8], at: usize, m: Model, first: [u32; Model::GROUPS]) -> usize
+    requires { ⌜ Settled m × (first ≡ firstVariables (tableOf m)) ⌝ }
+    requires { ⌜ at + length (headerText m) ≤ length (now buf) ⌝ }
+    ensures { λ r. ⌜ Wrote (headerText m) at (now (buf .entry)) (now (buf .exit)) r ⌝ }
+{
+    let s = m.s as usize;
+    let groups = m.groups;
+    let constraints = m.constraints;
+    let v = numbering::variable_count(groups, m.s);
+    let a = sum_groups(groups, s);
+    let b = sum_lines(groups, s, first, constraints, m.c as usize, m.n);
+    put_counts(buf, at, v, a + b)
+}
+
+// Block b of a settled model.
+fn put_block(
+    buf: &mut [u8],
+    at: usize,
+    m: Model,
+    first: [u32; Model::GROUPS],
+    outputs: [u32; Model::GROUPS],
+    b: u32,
+) -> usize
+    requires { ⌜ Settled m × (first ≡ firstVariables (tableOf m)) × (outputs ≡ firstOutputs (tableOf m)) ⌝ }
+    requires { ⌜ b ≤ m .s + m .c ⌝ }
+    requires { ⌜ at + length (blockText m b) ≤ length (now buf) ⌝ }
+    ensures { λ r. ⌜ Wrote (blockText m b) at (now (buf .entry)) (now (buf .exit)) r ⌝ }
+{
+    if b == 0 {
+        return put_header(buf, at, m, first);
+    }
+    let i = b as usize - 1;
+    let s = m.s as usize;
+    if b <= m.s {
+        let g = m.groups[i];
+        return put_group(buf, at, g, first[i], outputs[i]);
+    }
+    let groups = m.groups;
+    let c = m.constraints[i - s];
+    put_line(buf, at, groups, s, first, c, m.n)
+}
+
+// The arrays of a model are whole.
+fn whole(groups: [Group; Model::GROUPS], constraints: [Constraint; Model::CONSTRAINTS])
+    ensures { λ r. ⌜ (length groups ≡ limits .groups) × (length constraints ≡ limits .constraints) ⌝ }
+{}
+
+// ---- the entry
+
+// Block b in buf, from its start: refusals 20, 22, 23 and 24 in this order. 29 cannot occur after 22.
+pub fn write_block(m: Model, b: u32, buf: &mut [u8]) -> Written
+    ensures { λ r. ⌜ r ≡ writtenBlock m b (length (now (buf .entry))) ⌝ }
+    ensures { λ r. ⌜ now (buf .exit) ≡ blockBuffer m b (now (buf .entry)) ⌝ }
+{
+    if !m.in_range() {
+        return Written::Refused(20);
+    }
+    if !propagate::is_fixpoint(m) {
+        return Written::Refused(22);
+    }
+    if m.s + m.c < b {
+        return Written::Refused(23);
+    }
+    let groups = m.groups;
+    let constraints = m.constraints;
+    whole(groups, constraints);
+    let first = numbering::first_variables(groups, m.s);
+    let outputs = numbering::first_outputs(groups, m.s);
+    if Model::BLOCK_BYTES <= buf.len() {
+        let n = put_block(buf, 0, m, first, outputs, b);
+        return Written::Bytes(n);
+    }
+    let mut scratch = [0u8; Model::BLOCK_BYTES];
+    let k = put_block(&mut scratch, 0, m, first, outputs, b);
+    if buf.len() < k {
+        return Written::Refused(24);
+    }
+    let n = put_block(buf, 0, m, first, outputs, b);
+    Written::Bytes(n)
 }

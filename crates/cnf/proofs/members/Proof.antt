@@ -63,7 +63,7 @@ unfolding zeroGroup
 loop-again c = let n = number-at (c .before .before .before .args .t4) (c .before .before .before .args .s) (c .before .before .before .args .k) (c .before .before .loop .i) (c .before .before .before .pre .1 .1) (c .before .loop-test .taken) (omega (arith, (c .before .before .before .good))) in (omega arith, simp length-set (c .before .before .loop .inv .1), fill-next (memberOf (take (c .before .before .before .args .s) (c .before .before .before .args .t1))) (c .before .before .before .args .t4) (c .before .before .loop .r) (c .before .before .loop .i) 0 _ (omega (arith, (c .before .before .before .good))) (omega (arith, (c .before .before .loop .inv .1))) (c .before .before .loop .inv .2) (member-is (c .before .before .before .args .t1) (c .before .before .before .args .s) _ _ (c .before .before .before .pre .1 .0) (n .0) (n .1) (c .before .before .before .pre .0 .0)))
 
 returns : tie.Need-returns Inv-loop μ-loop
-returns c = let q : (c .before .loop .i) ≡ (c .before .before .args .k) = omega arith in ((c .before .loop .inv .1), ap (λ (n : ℕ). take n (c .before .loop .r)) (sym q) ∙ (c .before .loop .inv .2) ∙ ap (λ (n : ℕ). map (memberOf (take (c .before .before .args .s) (c .before .before .args .t1))) (take n (c .before .before .args .t4))) q)
+returns c = let q : (c .before .loop .i) ≡ (c .before .before .args .k) = omega arith in (((c .before .loop .inv .1), ap (λ (n : ℕ). take n (c .before .loop .r)) (sym q) ∙ (c .before .loop .inv .2) ∙ ap (λ (n : ℕ). map (memberOf (take (c .before .before .args .s) (c .before .before .args .t1))) (take n (c .before .before .args .t4))) q), omega (arith, (c .before .before .good)))
 
 pub members-spec : {M : Type 1} → statement M
 members-spec =
