@@ -7,3 +7,4 @@ pub mod Groups
 pub mod MemberTerms
 pub mod Lines
 pub mod Settled
+pub mod Entry

@@ -23,14 +23,14 @@ use Rattle.model.specs.Lists.{any, every, between, each, range, total}
 use Rattle.model.specs.Clauses.{memberClauses}
 use Rattle.model.specs.Totalizer.{oppositeTerm, holds, keep}
 use Rattle.model.specs.Model.{zeroGroup, groupAt}
-use Rattle.model.specs.Cnf.{openCount, firstVariable}
+use Rattle.model.specs.Cnf.{openCount, firstVariable, firstOutput}
 use Rattle.model.specs.Words.{less, size, bit, has}
 use Rattle.model.specs.Assignment.{variable}
 use Rattle.model.proofs.Words.{size-ones}
 use Rattle.model.proofs.Lists.{every-getD, each-range-ext, range-last, total-append}
 use Rattle.cnf.specs.declared.Member.{Member}
 use Rattle.cnf.specs.Parts.{keptText, memberOf, memberTerm, smallMember, literalTerm, clauseOf, memberClauseText, entrantText, keptCount, entrantCount, Steadies, Within}
-use Rattle.numbering.specs.Counter.{numbers, firstVariables}
+use Rattle.numbering.specs.Counter.{numbers, firstVariables, firstOutputs}
 use Rattle.model.specs.Limits.{limits}
 use Rattle.model.proofs.Lists.{getD-map-in, range-getD, range-length}
 
@@ -79,6 +79,13 @@ first-at t first g e h k =
     rw e
     (getD-map-in (firstVariable t) (range 1 (limits .groups)) (g - 1) 0 0 (omega (arith, range-length 1 (limits .groups)))
     ∙ ap (firstVariable t) (range-getD 1 (limits .groups) (g - 1) 0 (omega arith) ∙ omega arith))
+
+pub output-from : (t : List Group) (outputs : List ℕ) (g : ℕ) → outputs ≡ firstOutputs t → 1 ≤ g → g ≤ limits .groups → getD outputs (g - 1) 0 ≡ firstOutput t g
+unfolding firstOutputs numbers
+output-from t outputs g e h k =
+    rw e
+    (getD-map-in (firstOutput t) (range 1 (limits .groups)) (g - 1) 0 0 (omega (arith, range-length 1 (limits .groups)))
+    ∙ ap (firstOutput t) (range-getD 1 (limits .groups) (g - 1) 0 (omega arith) ∙ omega arith))
 
 pub member-is : (t : List Group) (s g : ℕ) (first : List ℕ) → first ≡ firstVariables (take s t) → 1 ≤ g → g ≤ s → s ≤ limits .groups
     → record { fixed = getD t (g - 1) zeroGroup .fixed; possible = getD t (g - 1) zeroGroup .possible; first = getD first (g - 1) 0 } ≡ memberOf (take s t) g

@@ -18,7 +18,7 @@ use Rattle.model.specs.Clauses.{memberCount, memberClauses, shortClauses, union
 use Rattle.model.specs.Model.{zeroGroup, zeroConstraint, groupAt, tableOf, constraintsOf, codeInRange, constraintInRange, inRange}
 use Rattle.model.specs.Propagate.{isFixpoint}
 use Rattle.model.specs.Assignment.{variable}
-use Rattle.model.specs.Cnf.{openCount, openOf, outputsOf, variableCount, firstVariable, firstOutput, groupClauses, constraintClauses, blockClauses}
+use Rattle.model.specs.Cnf.{openCount, openOf, outputsOf, variableCount, firstVariable, firstOutput, groupClauses, constraintClauses, blockClauses, groupClauseCount, clauseCount}
 use Rattle.model.specs.Text.{clauseText, headerText, blockText}
 use Rattle.model.proofs.Codes.{by-code}
 use Rattle.model.proofs.Words.{size-le}
@@ -31,9 +31,11 @@ use Rattle.encoding_laws.proofs.Bounds.{variables-bound}
 use Rattle.encoding_laws.proofs.Members.{Clear, members-clear, code-six, count-in, member-count, groups-in}
 use Rattle.numbering.specs.Counter.{firstVariables, firstOutputs, numbers}
 use Rattle.numbering.proofs.Arrays.{next-take}
+use Rattle.cnf.proofs.Numbers.{header-is}
+use Rattle.cnf.proofs.MemberTerms.{first-at, output-from}
 use Rattle.cnf.proofs.Lines.{constraint-text, constraint-length}
 use Rattle.cnf.specs.declared.Member.{Member}
-use Rattle.cnf.specs.Parts.{groupText, memberOf, smallMember, clauseOf, constraintText, constraintCount, Fitting, Within, Steady, Steadies}
+use Rattle.cnf.specs.Parts.{groupText, memberOf, smallMember, clauseOf, constraintText, constraintCount, countsText, Fitting, Within, Steady, Steadies, Settled}
 
 -- ---- the groups
 
@@ -225,3 +227,62 @@ module _ (m : Model) (r : T (inRange m)) (fix : T (isFixpoint m)) (z : Sized m) 
         ap (λ (c : Constraint). each clauseText (constraintClauses (m .n) table c))
         (sym (constraint-is (b - 1 - m .s) (omega arith)) ∙ ap (λ (j : ℕ). getD (constraintsOf m) j zeroConstraint) e)
         ∙ sym (body-text b (omega arith) ∙ ap (each clauseText) (constraint-block m z b h))
+
+-- ---- what the entry's parts ask of a settled model
+
+module _ (m : Model) (g : Settled m) where
+  pub groups-few : m .s ≤ limits .groups
+  groups-few = in-range m (g .range-is) .groupCount
+
+  pub entrants-few : m .n ≤ 32
+  entrants-few = in-range m (g .range-is) .entrants
+
+  pub constraints-few : m .c ≤ limits .constraints
+  constraints-few = in-range m (g .range-is) .constraintCount
+
+  pub table-steady : Steadies (take (m .s) (m .groups))
+  unfolding tableOf
+  table-steady = steadies m (g .range-is) (g .fixpoint)
+
+  pub lines-good : T (every (constraintInRange (m .s)) (take (m .c) (m .constraints)))
+  unfolding constraintsOf
+  lines-good = in-range m (g .range-is) .constraints
+
+  pub header-text : (v a b : ℕ) → v ≡ variableCount (take (m .s) (m .groups)) → a ≡ total groupClauseCount (take (m .s) (m .groups))
+      → b ≡ total (λ x. length (constraintClauses (m .n) (take (m .s) (m .groups)) x)) (take (m .c) (m .constraints)) → countsText v (a + b) ≡ headerText m
+  unfolding tableOf constraintsOf clauseCount
+  header-text v a b p q e = header-is m v (a + b) p (omega arith)
+
+  pub header-block : (b : ℕ) → b ≡ 0 → headerText m ≡ blockText m b
+  unfolding blockText
+  header-block b e = rw e
+
+  module _ (first outputs : List ℕ) (p : first ≡ firstVariables (tableOf m)) (q : outputs ≡ firstOutputs (tableOf m)) (b : ℕ) (h : 1 ≤ b) (k : b ≤ m .s) where
+    abbrev here : Group
+    here = getD (m .groups) (b - 1) zeroGroup
+
+    first-is : getD first (b - 1) 0 ≡ firstVariable (tableOf m) b
+    first-is = first-at (tableOf m) first b p h (omega (arith, groups-few))
+
+    output-is : getD outputs (b - 1) 0 ≡ firstOutput (tableOf m) b
+    output-is = output-from (tableOf m) outputs b q h (omega (arith, groups-few))
+
+    same : here ≡ groupAt (tableOf m) b
+    same = group-is m (g .range-is) (g .fixpoint) (g .sized) b h k
+
+    pub here-steady : Steady here
+    here-steady = subst Steady (sym same) (group-steady m (g .range-is) (g .fixpoint) (g .sized) b h k)
+
+    pub here-small : (getD first (b - 1) 0 + openCount here < 50000) × (getD outputs (b - 1) 0 + outputsOf here < 50000)
+    here-small = rw (first-is, output-is, same) (group-small m (g .range-is) (g .fixpoint) (g .sized) b h k)
+
+    pub here-text : groupText here (getD first (b - 1) 0) (getD outputs (b - 1) 0) ≡ blockText m b
+    here-text = rw (first-is, output-is) (block-group m (g .range-is) (g .fixpoint) (g .sized) b h k)
+
+  module _ (d : Constraint) (b : ℕ) (h : m .s < b) (k : b ≤ m .s + m .c) where
+    pub line-in-range : T (constraintInRange (m .s) (getD (m .constraints) (b - 1 - m .s) d))
+    line-in-range = constraint-good m (g .range-is) (g .fixpoint) (g .sized) d (b - 1 - m .s) (omega arith)
+
+    pub line-block : each clauseText (constraintClauses (m .n) (take (m .s) (m .groups)) (getD (m .constraints) (b - 1 - m .s) d)) ≡ blockText m b
+    unfolding tableOf
+    line-block = block-constraint m (g .range-is) (g .fixpoint) (g .sized) d b h k

@@ -1,7 +1,7 @@
 -- The parts that the block writer's functions write, as texts of the definitions' clauses. Assumes nothing.
 use Prim.Native.Nat.{ℕ, suc, _+_, _%_, _^_, _≤_, _<_}
 use mathlib.Core.Path.{_≡_}
-use mathlib.Core.Bool.{Bool, true, false, cond}
+use mathlib.Core.Bool.{Bool, true, false, cond, not}
 use mathlib.Core.List.{List, [], _∷_, _++_, map}
 use Rattle.model.specs.declared.Literal.{Literal}
 use Rattle.model.specs.declared.Literal.the-variants.{Pos, Neg}
@@ -10,7 +10,7 @@ use Rattle.model.specs.declared.Term.the-variants.{Holds, Fails, Open}
 use lib.Dec.{T, ltb}
 use lib.ListN.{length, getD}
 use Rattle.model.specs.declared.Group.{Group}
-use Rattle.model.specs.Lists.{each, range, total}
+use Rattle.model.specs.Lists.{each, range, total, stop}
 use Rattle.model.specs.Words.{less, size, has}
 use Rattle.model.specs.Limits.{limits}
 use Rattle.model.specs.Clauses.{memberClauses}
@@ -140,6 +140,10 @@ pub record Small (t : Node) : Type 0 where
 -- `p cnf V C` and byte 10
 unfoldable pub countsText : ℕ → ℕ → List ℕ
 countsText v c = ((112 ∷ 32 ∷ 99 ∷ 110 ∷ 102 ∷ 32 ∷ []) ++ spaced v) ++ decimal c ++ (10 ∷ [])
+
+-- the refusals that do not depend on the buffer
+unfoldable pub judgement : Model → ℕ → ℕ
+judgement m b = stop (not (inRange m)) 20 (stop (not (isFixpoint m)) 22 (stop (ltb (m .s + m .c) b) 23 0))
 
 -- in range, at its fixpoint, and with lists as long as its arrays
 pub record Settled (m : Model) : Type 0 where

@@ -15,7 +15,7 @@ ghost use Rattle.model.specs.Model.{tableOf, constraintInRange};
 ghost use Rattle.model.specs.Text.{decimal, literalText, clauseText, headerText, blockText, writtenBlock, blockBuffer};
 ghost use Rattle.numbering.specs.Counter.{firstVariables, firstOutputs};
 ghost use Rattle.cnf.specs.Wrote.{Wrote};
-ghost use Rattle.cnf.specs.Parts.{spaced, termText, keptText, outputText, pairText, rowText, nodeText, treeText, signed, unitText, groupText, memberOf, memberTerm, smallMember, literalTerm, clauseOf, memberClauseText, entrantText, constraintText, keptCount, entrantCount, constraintCount, countsText, Small, Steady, Steadies, Fitting, Within, Settled};
+ghost use Rattle.cnf.specs.Parts.{spaced, termText, keptText, outputText, pairText, rowText, nodeText, treeText, signed, unitText, groupText, memberOf, memberTerm, smallMember, literalTerm, clauseOf, memberClauseText, entrantText, constraintText, keptCount, entrantCount, constraintCount, countsText, judgement, Small, Steady, Steadies, Fitting, Within, Settled};
 use model::Constraint;
 use model::Group;
 use model::Literal;
@@ -818,41 +818,62 @@ fn put_block(
     put_line(buf, at, groups, s, first, c, m.n)
 }
 
+// ---- the entry
+
+// Refusals 20, 22 and 23, or 0.
+fn judged(m: Model, b: u32) -> u32
+    ensures { λ r. ⌜ r ≡ judgement m b ⌝ }
+{
+    if !m.in_range() {
+        return 20;
+    }
+    if !propagate::is_fixpoint(m) {
+        return 22;
+    }
+    if m.s + m.c < b {
+        return 23;
+    }
+    0
+}
+
 // The arrays of a model are whole.
 fn whole(groups: [Group; Model::GROUPS], constraints: [Constraint; Model::CONSTRAINTS])
     ensures { λ r. ⌜ (length groups ≡ limits .groups) × (length constraints ≡ limits .constraints) ⌝ }
 {}
 
-// ---- the entry
+// Block b of a settled model. A buffer that holds every block is written at once, a shorter one measured first.
+fn write_settled(m: Model, b: u32, buf: &mut [u8]) -> Written
+    requires { ⌜ Settled m × (b ≤ m .s + m .c) ⌝ }
+    ensures { λ r. ⌜ r ≡ writtenBlock m b (length (now (buf .entry))) ⌝ }
+    ensures { λ r. ⌜ now (buf .exit) ≡ blockBuffer m b (now (buf .entry)) ⌝ }
+{
+    let groups = m.groups;
+    let first = numbering::first_variables(groups, m.s);
+    let outputs = numbering::first_outputs(groups, m.s);
+    if buf.len() < Model::BLOCK_BYTES {
+        let mut scratch = [0u8; Model::BLOCK_BYTES];
+        let k = put_block(&mut scratch, 0, m, first, outputs, b);
+        if buf.len() < k {
+            return Written::Refused(24);
+        }
+        let n = put_block(buf, 0, m, first, outputs, b);
+        return Written::Bytes(n);
+    }
+    let n = put_block(buf, 0, m, first, outputs, b);
+    Written::Bytes(n)
+}
 
 // Block b in buf, from its start: refusals 20, 22, 23 and 24 in this order. 29 cannot occur after 22.
 pub fn write_block(m: Model, b: u32, buf: &mut [u8]) -> Written
     ensures { λ r. ⌜ r ≡ writtenBlock m b (length (now (buf .entry))) ⌝ }
     ensures { λ r. ⌜ now (buf .exit) ≡ blockBuffer m b (now (buf .entry)) ⌝ }
 {
-    if !m.in_range() {
-        return Written::Refused(20);
-    }
-    if !propagate::is_fixpoint(m) {
-        return Written::Refused(22);
-    }
-    if m.s + m.c < b {
-        return Written::Refused(23);
+    let refusal = judged(m, b);
+    if refusal != 0 {
+        return Written::Refused(refusal);
     }
     let groups = m.groups;
     let constraints = m.constraints;
     whole(groups, constraints);
-    let first = numbering::first_variables(groups, m.s);
-    let outputs = numbering::first_outputs(groups, m.s);
-    if Model::BLOCK_BYTES <= buf.len() {
-        let n = put_block(buf, 0, m, first, outputs, b);
-        return Written::Bytes(n);
-    }
-    let mut scratch = [0u8; Model::BLOCK_BYTES];
-    let k = put_block(&mut scratch, 0, m, first, outputs, b);
-    if buf.len() < k {
-        return Written::Refused(24);
-    }
-    let n = put_block(buf, 0, m, first, outputs, b);
-    Written::Bytes(n)
+    write_settled(m, b, buf)
 }
