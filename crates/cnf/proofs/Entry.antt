@@ -23,6 +23,33 @@ use Rattle.encoding_laws.proofs.Nonempty.{no-empty-clause}
 use Rattle.cnf.specs.Wrote.{Wrote}
 use Rattle.cnf.specs.Parts.{judgement, Settled}
 
+-- ---- what is judged first
+
+module _ (m : Model) (b : ℕ) where
+  pub judge-20 : inRange m ≡ false → 20 ≡ judgement m b
+  unfolding judgement
+  judge-20 e = rw e
+
+  module _ (e : inRange m ≡ true) where
+    pub judge-22 : (inRange m && isFixpoint m) ≡ false → 22 ≡ judgement m b
+    unfolding judgement
+    judge-22 h = let q : isFixpoint m ≡ false = rw e at h in rw (e, q)
+
+    module _ (h : (inRange m && isFixpoint m) ≡ true) where
+      at-fixpoint : isFixpoint m ≡ true
+      at-fixpoint = rw e at h
+
+      pub judge-23 : m .s + m .c < b → 23 ≡ judgement m b
+      unfolding judgement
+      judge-23 l = rw (e, at-fixpoint, lt-ltb (m .s + m .c) b l)
+
+      pub judge-0 : b ≤ m .s + m .c → 0 ≡ judgement m b
+      unfolding judgement
+      judge-0 l = rw (e, at-fixpoint, le-ltb (m .s + m .c) b l)
+
+    pub sum-small : m .s + m .c < 1000
+    sum-small = let i = in-range m (true-T (inRange m) e) in omega (arith, i .groupCount, i .constraintCount)
+
 -- ---- refused before the buffer is looked at
 
 module _ (m : Model) (b room : ℕ) where
