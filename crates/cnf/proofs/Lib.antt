@@ -8,3 +8,4 @@ pub mod MemberTerms
 pub mod Lines
 pub mod Settled
 pub mod Entry
+pub mod Runs

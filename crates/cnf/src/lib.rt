@@ -15,6 +15,7 @@ ghost use Rattle.model.specs.Model.{tableOf, constraintInRange};
 ghost use Rattle.model.specs.Text.{decimal, literalText, clauseText, headerText, blockText, writtenBlock, blockBuffer};
 ghost use Rattle.numbering.specs.Counter.{firstVariables, firstOutputs};
 ghost use Rattle.cnf.specs.Wrote.{Wrote};
+ghost use Rattle.cnf.specs.Run.{runOf, runBuffer};
 ghost use Rattle.cnf.specs.Parts.{spaced, termText, keptText, outputText, pairText, rowText, nodeText, treeText, signed, unitText, groupText, memberOf, memberTerm, smallMember, literalTerm, clauseOf, memberClauseText, entrantText, constraintText, keptCount, entrantCount, constraintCount, countsText, judgement, Small, Steady, Steadies, Fitting, Within, Settled};
 use model::Constraint;
 use model::Group;
@@ -876,4 +877,62 @@ pub fn write_block(m: Model, b: u32, buf: &mut [u8]) -> Written
     let constraints = m.constraints;
     whole(groups, constraints);
     write_settled(m, b, buf)
+}
+
+// ---- many blocks at once
+
+// A run of blocks: 0, the first block that is not written and the length of the text; or a refusal, the block asked for and 0.
+pub struct Run {
+    pub refusal: u32,
+    pub next: u32,
+    pub length: usize,
+}
+
+// The blocks of a settled model from b on, each while the buffer has room for any block.
+fn write_run(m: Model, b: u32, buf: &mut [u8]) -> Run
+    requires { ⌜ Settled m × (b ≤ m .s + m .c) × (judgement m b ≡ 0) ⌝ }
+    ensures { λ r. ⌜ r ≡ runOf m b (length (now (buf .entry))) ⌝ }
+    ensures { λ r. ⌜ now (buf .exit) ≡ runBuffer m b (now (buf .entry)) ⌝ }
+{
+    let groups = m.groups;
+    let first = numbering::first_variables(groups, m.s);
+    let outputs = numbering::first_outputs(groups, m.s);
+    let last = m.s + m.c;
+    let mut at: usize = 0;
+    let mut x = b;
+    while x <= last {
+        if buf.len() - at < Model::BLOCK_BYTES {
+            return Run {
+                refusal: 0,
+                next: x,
+                length: at,
+            };
+        }
+        at = put_block(buf, at, m, first, outputs, x);
+        x += 1;
+    }
+    Run {
+        refusal: 0,
+        next: x,
+        length: at,
+    }
+}
+
+// The same for every model: 20, 22 and 23 are judged once for the whole run.
+pub fn write_blocks(m: Model, b: u32, buf: &mut [u8]) -> Run
+    ensures { λ r. ⌜ r ≡ runOf m b (length (now (buf .entry))) ⌝ }
+    ensures { λ r. ⌜ now (buf .exit) ≡ runBuffer m b (now (buf .entry)) ⌝ }
+{
+    let refusal = judged(m, b);
+    if refusal != 0 {
+        return Run {
+            refusal,
+            next: b,
+            length: 0,
+        };
+    }
+    let groups = m.groups;
+    let constraints = m.constraints;
+    whole(groups, constraints);
+    write_run(m, b, buf)
 }
