@@ -7,7 +7,7 @@ use native.Mathlib.Nat.{zero-add}
 use native.Mathlib.Omega.{arith}
 use borrow.Author.Tests.{le-leb, lt-leb, ne-eqb}
 use lib.Dec.{leb, eqb}
-use lib.ListN.{length, take, drop}
+use lib.ListN.{length, take, drop, length-append}
 use Rattle.model.specs.declared.Model.{Model}
 use Rattle.model.specs.Lists.{each, range}
 use Rattle.model.specs.Limits.{limits}
@@ -124,3 +124,22 @@ module _ (m : Model) (b : ℕ) (buf : List ℕ) where
     pub refused-buffer : buf ≡ runBuffer m b buf
     unfolding runBuffer runText
     refused-buffer = rw nothing
+
+-- a run that is not refused, in a buffer that holds any block, moves on
+pub run-moves : (m : Model) (b room : ℕ) (r : Run) → r ≡ runOf m b room → r .refusal ≡ 0 → b ≤ m .s + m .c → limits .block ≤ room → b < r .next
+unfolding runOf runLength
+run-moves m b room r e z h l =
+    let j : judgement m b ≡ 0 = sym (ap (λ (x : Run). x .refusal) e) ∙ z in
+    let n : r .next ≡ b + cond (eqb (judgement m b) 0) (runCount (m .s + m .c + 1 - b) m b room) 0 = ap (λ (x : Run). x .next) e in
+    let k : m .s + m .c + 1 - b ≡ suc (m .s + m .c - b) = omega arith in
+    let c = ap (λ (i : ℕ). runCount i m b room) k ∙ count-more m b [] (m .s + m .c - b) b room l in
+    let n′ : r .next ≡ b + runCount (m .s + m .c + 1 - b) m b room = rw j at n in
+    omega (arith, n′, c)
+
+-- and its text is in the buffer
+pub run-inside : (m : Model) (b : ℕ) (buf after : List ℕ) (r : Run) → r ≡ runOf m b (length buf) → after ≡ runBuffer m b buf → length after ≡ length buf
+    → r .length ≤ length buf
+unfolding runOf runBuffer
+run-inside m b buf after r e q k =
+    let n : r .length ≡ length (runText m b (length buf)) = ap (λ (x : Run). x .length) e in
+    omega (arith, n, ap length q, length-append (runText m b (length buf)) (drop (length (runText m b (length buf))) buf))
