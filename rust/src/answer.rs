@@ -25,6 +25,18 @@ pub fn read_line(closed: &mut bool, line: &[u8], marks: &mut [u8]) -> Result<(),
     Ok(())
 }
 
+/// A whole answer from fresh marks: whether a closing 0 was said, and the marks. A refused line is reported, and the reading goes on.
+pub fn read_lines(answer: &[u8], variables: usize, refused: &mut dyn FnMut(usize, u32)) -> (bool, Vec<u8>) {
+    let (mut closed, mut marks) = (false, vec![0; variables]);
+    for (index, line) in answer.split_inclusive(|&byte| byte == b'\n').enumerate() {
+        let line = line.strip_suffix(b"\n").unwrap_or(line);
+        if let Err(number) = read_line(&mut closed, line, &mut marks) {
+            refused(index + 1, number);
+        }
+    }
+    (closed, marks)
+}
+
 /// The form of the whole line after its `v`.
 fn parse(mut rest: &[u8]) -> Option<Said> {
     let mut said = Said { literals: Vec::new(), closing: false };

@@ -44,6 +44,17 @@ fn groups(encoding: &Encoding, marks: &[u8]) -> Vec<u64> {
     model.groups.iter().enumerate().map(|(index, group)| group.fixed | entrants(index)).collect()
 }
 
+/// The groups, one a line, as `1: 3 7 9`.
+pub fn table(groups: &[u64]) -> String {
+    let mut text = String::new();
+    for (index, set) in groups.iter().enumerate() {
+        text += &format!("{}:", index + 1);
+        (0..64).filter(|entrant| set >> entrant & 1 == 1).for_each(|entrant| text += &format!(" {}", entrant + 1));
+        text.push('\n');
+    }
+    text
+}
+
 #[cfg(test)]
 mod tests {
     use super::*;

@@ -2,7 +2,7 @@
 pub mod answer;
 pub mod clauses;
 pub mod close;
-
+pub mod compare;
 pub mod encode;
 pub mod listing;
 pub mod model;
