@@ -20,13 +20,21 @@ impl Literal {
     /// The entrants for whom this literal is settled true.
     pub fn holds(self, groups: &[Group]) -> u64 {
         let group = &groups[self.group];
-        if self.positive { group.fixed } else { !group.possible }
+        if self.positive {
+            group.fixed
+        } else {
+            !group.possible
+        }
     }
 
     /// The entrants for whom this literal is settled false.
     pub fn fails(self, groups: &[Group]) -> u64 {
         let group = &groups[self.group];
-        if self.positive { !group.possible } else { group.fixed }
+        if self.positive {
+            !group.possible
+        } else {
+            group.fixed
+        }
     }
 }
 

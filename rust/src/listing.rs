@@ -38,30 +38,42 @@ fn push_header(encoding: &Encoding, text: &mut Vec<u8>) {
     text.push(b'\n');
 }
 
+/// The longest clause: 17 literals of a sign, five digits and a space each, then `0` and the newline.
+const CLAUSE_BYTES: usize = 17 * 7 + 2;
+
 fn push_clause(clause: &[i32], text: &mut Vec<u8>) {
-    for &literal in clause {
+    let mut bytes = [0; CLAUSE_BYTES];
+    let mut at = bytes.len() - 2;
+    bytes[at..].copy_from_slice(b"0\n");
+    for &literal in clause.iter().rev() {
+        at -= 1;
+        bytes[at] = b' ';
+        at = digits_before(literal.unsigned_abs(), at, &mut bytes);
         if literal < 0 {
-            text.push(b'-');
+            at -= 1;
+            bytes[at] = b'-';
         }
-        push_number(literal.unsigned_abs(), text);
-        text.push(b' ');
     }
-    text.extend_from_slice(b"0\n");
+    text.extend_from_slice(&bytes[at..]);
 }
 
-/// The number in decimal.
-fn push_number(mut number: u32, text: &mut Vec<u8>) {
+fn push_number(number: u32, text: &mut Vec<u8>) {
     let mut digits = [0; 10];
-    let mut start = digits.len();
+    let start = digits_before(number, digits.len(), &mut digits);
+    text.extend_from_slice(&digits[start..]);
+}
+
+/// Writes the number in decimal so that it ends before `end`; gives where it starts.
+fn digits_before(mut number: u32, end: usize, bytes: &mut [u8]) -> usize {
+    let mut at = end;
     loop {
-        start -= 1;
-        digits[start] = b'0' + (number % 10) as u8;
+        at -= 1;
+        bytes[at] = b'0' + (number % 10) as u8;
         number /= 10;
         if number == 0 {
-            break;
+            return at;
         }
     }
-    text.extend_from_slice(&digits[start..]);
 }
 
 #[cfg(test)]

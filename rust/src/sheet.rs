@@ -20,16 +20,14 @@ pub fn read(sheet: &[u8]) -> Result<Model, Refused> {
     let mut line = 0;
     for bytes in text.split(|&byte| byte == b'\n') {
         line += 1;
-        read_fields(bytes, &mut fields)
-            .and_then(|()| reader.take(&fields))
-            .map_err(|number| Refused { number, line })?;
+        read_fields(bytes, &mut fields).and_then(|()| reader.take(&fields)).map_err(|number| Refused { number, line })?;
     }
     reader.finish().ok_or(Refused { number: KIND, line: line + 1 })
 }
 
 /// The numbers of a line.
 fn read_fields(line: &[u8], fields: &mut Vec<u32>) -> Result<(), u32> {
-    if line.is_empty() || line.len() % 4 != 0 {
+    if line.is_empty() || !line.len().is_multiple_of(4) {
         return Err(LENGTH);
     }
     fields.clear();

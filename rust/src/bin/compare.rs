@@ -31,7 +31,7 @@ fn main() -> ExitCode {
     }
 }
 
-const QUICK: u64 = 100_000;
+const QUICK: u64 = 200_000;
 const LONG: u64 = 1_000_000;
 
 #[cfg(proved)]

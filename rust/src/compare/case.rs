@@ -7,13 +7,30 @@ use crate::settle::Settled;
 
 #[derive(Clone, Debug)]
 pub enum Case {
-    Read { sheet: Vec<u8> },
+    Read {
+        sheet: Vec<u8>,
+    },
     /// `spare`: words of the table beyond those of the groups, or missing.
-    Settle { sheet: Vec<u8>, spare: isize },
+    Settle {
+        sheet: Vec<u8>,
+        spare: isize,
+    },
     /// `spare`: bytes of the buffer beyond the block's length, or missing.
-    Block { sheet: Vec<u8>, block: u32, spare: isize },
-    Lines { marks: Vec<u8>, lines: Vec<Vec<u8>> },
-    Close { sheet: Vec<u8>, closed: bool, marks: Vec<u8>, room: usize },
+    Block {
+        sheet: Vec<u8>,
+        block: u32,
+        spare: isize,
+    },
+    Lines {
+        marks: Vec<u8>,
+        lines: Vec<Vec<u8>>,
+    },
+    Close {
+        sheet: Vec<u8>,
+        closed: bool,
+        marks: Vec<u8>,
+        room: usize,
+    },
 }
 
 pub type Kind = &'static str;
@@ -74,11 +91,19 @@ pub const KINDS: &[Kind] = &[
     "close: table too short",
 ];
 
+/// What came of a case. Several calls, each of one kind or more, may be in it.
 #[derive(Default)]
 pub struct Outcome {
     pub kinds: Vec<Kind>,
     pub calls: u64,
-    pub difference: Option<String>,
+    pub difference: Option<Difference>,
+    /// Where the kinds of the current call begin.
+    current: usize,
+}
+
+pub struct Difference {
+    pub kinds: Vec<Kind>,
+    pub words: String,
 }
 
 impl Outcome {
@@ -89,7 +114,8 @@ impl Outcome {
     /// Keeps the first difference; the counterpart's answer stands first.
     fn compare<T: PartialEq + std::fmt::Debug>(&mut self, what: &str, ours: T, theirs: T) {
         if ours != theirs && self.difference.is_none() {
-            self.difference = Some(format!("{what}: counterpart {ours:?}, other side {theirs:?}"));
+            let words = format!("{what}: counterpart {ours:?}, other side {theirs:?}");
+            self.difference = Some(Difference { kinds: self.kinds[self.current..].to_vec(), words });
         }
     }
 
@@ -230,6 +256,7 @@ fn check_lines(marks: &[u8], lines: &[Vec<u8>], other: &dyn Calls, outcome: &mut
     outcome.calls = lines.len() as u64;
     for (index, line) in lines.iter().enumerate() {
         let answer = Counterpart.line(closed, line, &mut ours);
+        outcome.current = outcome.kinds.len();
         outcome.note(line_kind(line, answer, closed, ours.len()));
         let their_answer = other.line(their_closed, line, &mut theirs);
         outcome.compare(&format!("line {}: refusal * 2 + closed", index + 1), answer, their_answer);
@@ -274,7 +301,11 @@ fn close_kind(sheet: &[u8], closed: bool, marks: &[u8], answer: u32) -> Kind {
         0 => "close: groups",
         MARKS => {
             let variables = settled(sheet).map_or(0, |settled| Encoding::of(&settled).variables);
-            if marks.len() < variables { "close: 26 marks too few" } else { "close: 26 marks too many" }
+            if marks.len() < variables {
+                "close: 26 marks too few"
+            } else {
+                "close: 26 marks too many"
+            }
         }
         UNSAID if !closed => "close: 27 no closing 0",
         UNSAID => "close: 27 unsaid",
@@ -312,7 +343,9 @@ impl Case {
     /// The case in words, its sheet or lines below.
     pub fn show(&self) -> String {
         let text = |bytes: &[u8]| bytes.escape_ascii().to_string();
-        let sheet = |sheet: &[u8]| sheet.split_inclusive(|&byte| byte == b'\n').map(|line| format!("  {}\n", text(line))).collect::<String>();
+        let odd_lines = |sheet: &[u8]| sheet.split_inclusive(|&byte| byte == b'\n').map(|line| format!("\"{}\"\n", text(line))).collect();
+        let plain = |sheet: &[u8]| sheet.ends_with(b"\n") && sheet.iter().all(|&byte| byte == b'\n' || byte == b' ' || byte.is_ascii_graphic());
+        let sheet = |sheet: &[u8]| if plain(sheet) { String::from_utf8_lossy(sheet).into_owned() } else { odd_lines(sheet) };
         match self {
             Case::Read { sheet: s } => format!("read\n{}", sheet(s)),
             Case::Settle { sheet: s, spare } => format!("settle, table of 4*s{spare:+} words\n{}", sheet(s)),

@@ -37,15 +37,19 @@ fn take(case: &Case, other: &dyn Calls, tally: &mut Tally, say: &mut dyn FnMut(&
     let outcome = check(case, other);
     tally.calls += outcome.calls;
     outcome.kinds.iter().for_each(|kind| *tally.met.entry(kind).or_default() += 1);
-    if outcome.difference.is_none() {
-        return;
+    let Some(difference) = outcome.difference else { return };
+    if difference.kinds.iter().any(|kind| !tally.failed.contains(kind)) {
+        say(&smallest(case, difference.kinds[0], other));
     }
-    if outcome.kinds.iter().any(|kind| !tally.failed.contains(kind)) {
-        let smallest = shrink(case.clone(), &|case| check(case, other).difference.is_some());
-        let difference = check(&smallest, other).difference.unwrap_or_default();
-        say(&format!("difference in {}: {difference}\n{}", outcome.kinds.join(", "), smallest.show()));
-    }
-    tally.failed.extend(outcome.kinds);
+    tally.failed.extend(difference.kinds);
+}
+
+/// The smallest case found that differs in the same kind, in words.
+fn smallest(case: &Case, kind: Kind, other: &dyn Calls) -> String {
+    let difference = |case: &Case| check(case, other).difference.filter(|difference| difference.kinds.contains(&kind));
+    let smallest = shrink(case.clone(), &|case| difference(case).is_some());
+    let words = difference(&smallest).map(|difference| difference.words).unwrap_or_default();
+    format!("difference in {kind}: {words}\n{}", smallest.show())
 }
 
 impl Tally {
@@ -224,7 +228,7 @@ mod tests {
             answer if answer > 0 && answer < 65_536 => answer - 1,
             answer => answer,
         };
-        is_caught(Broken { settle, ..SOUND }, "settle: with counters", "     1   1   1   0\\n\n     2   1   0   1   1\\n\n");
+        is_caught(Broken { settle, ..SOUND }, "settle: open marks and no counter", "\n   1   1   1   0\n   2   1   0   1   1\n");
     }
 
     #[test]
@@ -248,7 +252,7 @@ mod tests {
             }
             answer
         };
-        is_caught(Broken { line, ..SOUND }, "line: 12 said in this line", "  \"v ");
+        is_caught(Broken { line, ..SOUND }, "line: 12 said in an earlier line", "  \"v 2\"\n  \"v 2\"\n");
     }
 
     #[test]

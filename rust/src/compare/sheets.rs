@@ -27,11 +27,12 @@ pub fn valid(random: &mut Random) -> Sample {
 }
 
 fn size(random: &mut Random) -> Size {
-    let (entrants, groups, lines) = match random.below(100) {
-        0..=49 => (4, 5, 4),
-        50..=79 => (8, 20, 10),
-        80..=97 => (32, 40, 40),
-        _ => (32, 256, 256),
+    let (entrants, groups, lines) = match random.below(200) {
+        0..=99 => (4, 5, 4),
+        100..=159 => (8, 20, 10),
+        160..=195 => (32, 40, 40),
+        196..=198 => (32, 256, 256),
+        _ => return Size { entrants: ENTRANTS, groups: GROUPS as usize, lines: LINES as usize },
     };
     Size { entrants: random.from_to(1, entrants) as u32, groups: random.from_to(1, groups), lines: random.from_to(0, lines) }
 }
@@ -217,7 +218,7 @@ fn damaged_field(random: &mut Random, sheet: Vec<u8>) -> Vec<u8> {
     if lines.is_empty() {
         return sheet;
     }
-    let at = random.below(lines.len());
+    let at = random.below(lines.len()).max(random.below(lines.len()));
     let line = &mut lines[at];
     let fields = line.len() / 4;
     if fields == 0 {
@@ -245,7 +246,8 @@ fn damaged_field(random: &mut Random, sheet: Vec<u8>) -> Vec<u8> {
             line.splice(place, format!("{number:4}").into_bytes());
         }
         _ => {
-            let odd = random.pick(&[*b"1   ", *b" 1  ", *b"  1 ", *b"  01", *b"0000", *b"    ", *b"  00", *b" -1 ", *b"  +1", *b" 1 1", *b"\t  1", *b"0x01", *b"  1\r"]);
+            let odd = random
+                .pick(&[*b"1   ", *b" 1  ", *b"  1 ", *b"  01", *b"0000", *b"    ", *b"  00", *b" -1 ", *b"  +1", *b" 1 1", *b"\t  1", *b"0x01", *b"  1\r"]);
             line.splice(place, odd);
         }
     }

@@ -110,7 +110,8 @@ impl Shrinker<'_> {
     fn looser_group(&mut self, index: usize) -> bool {
         let model = self.model().unwrap();
         let (group, everyone) = (model.groups[index], model.everyone());
-        let mut ways = vec![Group { fixed: 0, possible: everyone, low: 0, high: model.entrants }, Group { low: 0, ..group }, Group { high: model.entrants, ..group }];
+        let mut ways =
+            vec![Group { fixed: 0, possible: everyone, low: 0, high: model.entrants }, Group { low: 0, ..group }, Group { high: model.entrants, ..group }];
         for bit in (0..model.entrants).map(|e| 1 << e) {
             ways.push(Group { fixed: group.fixed & !bit, possible: group.possible | bit, ..group });
         }
@@ -147,14 +148,27 @@ impl Shrinker<'_> {
             smaller |= self.attempt_lines(lines);
         }
         for index in 0..self.lines().len() {
-            for at in (0..self.lines()[index].len()).rev() {
-                let mut lines = self.lines();
-                lines[index].remove(at);
-                smaller |= self.attempt_lines(lines);
-            }
+            smaller |= self.shorter_line(index);
         }
         while self.fewer_marks() {
             smaller = true;
+        }
+        smaller
+    }
+
+    /// The line without one of its words, or else without one of its bytes.
+    fn shorter_line(&mut self, index: usize) -> bool {
+        let mut smaller = false;
+        for whole_words in [true, false] {
+            let mut end = self.lines()[index].len();
+            while end > 0 {
+                let mut lines = self.lines();
+                let line = &mut lines[index];
+                let start = if whole_words { line[..end].iter().rposition(|&byte| byte == b' ').unwrap_or(0) } else { end - 1 };
+                line.drain(start..end);
+                smaller |= self.attempt_lines(lines);
+                end = start;
+            }
         }
         smaller
     }
