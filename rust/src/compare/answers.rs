@@ -140,3 +140,75 @@ fn damage(random: &mut Random, line: &mut Vec<u8>) {
         _ => drop(line.remove(at)),
     }
 }
+
+#[cfg(test)]
+mod tests {
+    use super::super::{calls::settled, sheets};
+    use super::*;
+    use crate::close::close;
+    use crate::model::Model;
+    use crate::sheet::read;
+
+    /// Whether groups are a draw of the sheet, by the paper's sentence alone.
+    fn is_draw(model: &Model, sets: &[u64]) -> bool {
+        let fits = |(group, &set): (&crate::model::Group, &u64)| {
+            let many = set.count_ones();
+            group.fixed & !set == 0 && set & !group.possible == 0 && group.low <= many && many <= group.high
+        };
+        model.groups.iter().zip(sets).all(fits) && model.constraints.iter().all(|line| sheets::is_true(line, sets))
+    }
+
+    /// The groups that a word spells, n bits each.
+    fn sets(model: &Model, word: u64) -> Vec<u64> {
+        (0..model.groups.len()).map(|index| word >> (index as u32 * model.entrants) & model.everyone()).collect()
+    }
+
+    /// Small sheets, all of whose draws and assignments can be gone through.
+    fn small_models(many: usize) -> impl Iterator<Item = (Vec<u8>, Model)> {
+        let mut random = Random(3);
+        let models = std::iter::repeat_with(move || sheets::valid(&mut random).sheet).map(|sheet| (read(&sheet).unwrap(), sheet));
+        models.filter(|(model, _)| model.entrants * model.groups.len() as u32 <= 12).map(|(model, sheet)| (sheet, model)).take(many)
+    }
+
+    #[test]
+    fn draws_and_satisfying_assignments_match_one_for_one() {
+        let (mut drawn, mut counted) = (0, 0);
+        for (sheet, model) in small_models(3_000) {
+            let bits = model.entrants * model.groups.len() as u32;
+            let draws: Vec<Vec<u64>> = (0..1 << bits).map(|word| sets(&model, word)).filter(|sets| is_draw(&model, sets)).collect();
+            let Ok(settled) = settled(&sheet) else {
+                assert!(draws.is_empty(), "21 for a sheet with a draw");
+                continue;
+            };
+            let encoding = Encoding::of(&settled);
+            for draw in &draws {
+                assert_eq!(close(&encoding, true, &fill(&encoding, draw)).as_ref(), Ok(draw));
+                drawn += 1;
+            }
+            if encoding.variables <= 12 {
+                let marks = |word: u32| (0..encoding.variables).map(|at| 1 + (word >> at & 1) as u8).collect::<Vec<u8>>();
+                let satisfying = (0..1 << encoding.variables).filter(|&word| close(&encoding, true, &marks(word)).is_ok()).count();
+                assert_eq!(satisfying, draws.len());
+                counted += 1;
+            }
+        }
+        assert!(drawn > 1_000 && counted > 1_000, "{drawn} draws, {counted} sheets gone through");
+    }
+
+    #[test]
+    fn the_header_counts_what_the_blocks_hold() {
+        for (sheet, _) in small_models(3_000) {
+            let Ok(settled) = settled(&sheet) else { continue };
+            let encoding = Encoding::of(&settled);
+            let (mut clauses, mut highest) = (0, 0);
+            for block in 1..=encoding.blocks() {
+                encoding.each_clause(block, &mut |clause| {
+                    clauses += 1;
+                    highest = clause.iter().fold(highest, |highest, literal| highest.max(literal.unsigned_abs() as usize));
+                });
+            }
+            assert_eq!(clauses, encoding.clauses());
+            assert!(highest <= encoding.variables);
+        }
+    }
+}

@@ -35,6 +35,8 @@ pub enum Case {
 
 pub type Kind = &'static str;
 
+pub const SAMPLE: Kind = "line: answers to the published samples";
+
 /// Every kind of case, in the order of the report. A run that misses one has failed.
 pub const KINDS: &[Kind] = &[
     "read: accepted",
@@ -67,6 +69,7 @@ pub const KINDS: &[Kind] = &[
     "block: 24 buffer a byte short",
     "block: 21",
     "block: sheet refused",
+    SAMPLE,
     "line: c or s",
     "line: c or s after the closing 0",
     "line: v",

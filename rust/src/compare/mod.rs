@@ -5,5 +5,6 @@ pub mod case;
 pub mod programs;
 pub mod random;
 pub mod run;
+pub mod samples;
 pub mod sheets;
 pub mod shrink;

@@ -1,9 +1,9 @@
 //! A run of the comparison: cases from a seed, counted by kind, with the smallest case of each difference.
 use super::calls::{settled, Calls};
-use super::case::{check, Case, Kind, KINDS};
+use super::case::{check, Case, Kind, KINDS, SAMPLE};
 use super::random::Random;
 use super::shrink::shrink;
-use super::{answers, sheets};
+use super::{answers, samples, sheets};
 use crate::encode::Encoding;
 use std::collections::BTreeMap;
 use std::time::{Duration, Instant};
@@ -20,6 +20,13 @@ pub struct Tally {
 pub fn run(other: &dyn Calls, seed: u64, calls: u64, say: &mut dyn FnMut(&str)) -> Tally {
     let mut random = Random(seed);
     let mut tally = Tally::default();
+    for case in samples::cases() {
+        take(&case, other, &mut tally, say);
+        *tally.met.entry(SAMPLE).or_default() += 1;
+        if !tally.failed.is_empty() {
+            tally.failed.push(SAMPLE);
+        }
+    }
     let mut next_word = Instant::now() + Duration::from_secs(3);
     while tally.calls < calls {
         for case in batch(&mut random) {

@@ -101,7 +101,8 @@ fn first_set(line: &Constraint, sets: &[u64]) -> u64 {
     }
 }
 
-fn is_true(line: &Constraint, sets: &[u64]) -> bool {
+/// Whether a line is true of the groups.
+pub fn is_true(line: &Constraint, sets: &[u64]) -> bool {
     sets[line.groups[0]] == first_set(line, sets)
 }
 
