@@ -43,9 +43,12 @@ pub fn fresh(random: &mut Random, length: usize) -> Vec<u8> {
     (0..length).map(|_| byte(random)).collect()
 }
 
+/// Longer marks than this are said in part only.
+const MOST_SAID: usize = 60_000;
+
 /// Several lines in a row.
 pub fn lines(random: &mut Random, length: usize) -> Vec<Vec<u8>> {
-    if random.chance(40) {
+    if length <= MOST_SAID && random.chance(40) {
         return whole_answer(random, length);
     }
     (0..random.from_to(1, 6)).map(|_| line(random, length)).collect()
@@ -115,7 +118,11 @@ fn literals(random: &mut Random, length: usize) -> Vec<i64> {
             -variable
         }
     };
-    (0..many).map(|_| literal(random)).collect()
+    let mut literals: Vec<i64> = (0..many).map(|_| literal(random)).collect();
+    if many > 0 && random.chance(15) {
+        literals.push(random.pick(&literals) * random.pick(&[1, -1]));
+    }
+    literals
 }
 
 fn passed_over(random: &mut Random) -> Vec<u8> {

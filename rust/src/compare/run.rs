@@ -121,8 +121,8 @@ fn block_case(random: &mut Random, sheet: &[u8]) -> Case {
 
 fn lines_case(random: &mut Random) -> Case {
     let length = match random.below(500) {
-        0 => random.pick(&[49_152, 49_153, 60_000]),
-        1..=10 => random.from_to(1_000, 3_000),
+        0 | 1 => random.pick(&[49_152, 49_153, 60_000, 65_537, 100_000]),
+        2..=11 => random.from_to(1_000, 3_000),
         _ => random.below(30),
     };
     let lines = answers::lines(random, length);
