@@ -251,7 +251,7 @@ mod tests {
     }
 
     #[test]
-    fn a_refused_line_that_leaves_a_mark_is_caught_with_a_short_line() {
+    fn a_refused_line_that_leaves_a_mark_is_caught() {
         let line = |closed, line: &[u8], marks: &mut [u8]| {
             let answer = Counterpart.line(closed, line, marks);
             if answer / 2 == 12 && !marks.is_empty() {
@@ -259,7 +259,7 @@ mod tests {
             }
             answer
         };
-        is_caught(Broken { line, ..SOUND }, "line: 12 said in an earlier line", "  \"v 2\"\n  \"v 2\"\n");
+        is_caught(Broken { line, ..SOUND }, "line: 12 said in this line", "difference in line: 12 said in this line");
     }
 
     #[test]

@@ -198,3 +198,42 @@ impl Shrinker<'_> {
         candidates.into_iter().any(|candidate| self.attempt(candidate))
     }
 }
+
+#[cfg(test)]
+mod tests {
+    use super::super::calls::{settled, Calls, Counterpart};
+    use super::*;
+
+    /// Whether some line is refused with 12.
+    fn says_twice(case: &Case) -> bool {
+        let Case::Lines { marks, lines } = case else { return false };
+        let mut marks = marks.clone();
+        lines.iter().any(|line| Counterpart.line(0, line, &mut marks) / 2 == 12)
+    }
+
+    #[test]
+    fn lines_shrink_to_the_words_that_matter() {
+        let lines = ["c solver", "v 1 2 3", "v 4", "v -5 -2 6 0"].map(|line| line.as_bytes().to_vec()).to_vec();
+        let Case::Lines { marks, lines } = shrink(Case::Lines { marks: vec![0; 9], lines }, &says_twice) else { panic!() };
+        assert_eq!((marks.len(), lines), (2, vec![b"v 2".to_vec(), b"v 2".to_vec()]));
+    }
+
+    fn contradicts(case: &Case) -> bool {
+        case.sheet().is_some_and(|sheet| settled(sheet) == Err(21))
+    }
+
+    #[test]
+    fn a_sheet_shrinks_to_what_contradicts() {
+        let sheet = "   1   3   4   2\n   2   1   0   3   1   2   0\n   2   2   1   2   1   0   1\n   2   3   0   1   1   1   1\n   2   4   2   2   1   1   1\n   3   2   1   2\n   3   4   3   1   4\n";
+        let smallest = shrink(Case::Read { sheet: sheet.as_bytes().to_vec() }, &contradicts);
+        let wanted = "   1   1   1   0\n   2   1   1   1   0\n";
+        assert_eq!(String::from_utf8_lossy(smallest.sheet().unwrap()), wanted);
+    }
+
+    #[test]
+    fn text_that_is_no_sheet_shrinks_by_lines_fields_and_bytes() {
+        let bad_length = |case: &Case| case.sheet().is_some_and(|sheet| Counterpart.read(sheet) >> 16 == 3);
+        let sheet = b"   1   3   2   1\n   2   1   1   1   1   1  1\n".to_vec();
+        assert_eq!(shrink(Case::Read { sheet }, &bad_length).sheet().unwrap(), b"\n");
+    }
+}
