@@ -141,7 +141,7 @@ impl<'a> Encoding<'a> {
         self.first[group] + before.count_ones() as i32
     }
 
-    /// The groups' first counter outputs, for those who fill an assignment.
+    /// A counter's first output and its number of leaves, none where the group has no counter.
     pub fn counter_start(&self, group: usize) -> Option<(i32, u32)> {
         let counter = Counter::of(&self.settled.model().groups[group])?;
         Some((self.outputs[group], counter.size))

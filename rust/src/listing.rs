@@ -79,6 +79,7 @@ fn digits_before(mut number: u32, end: usize, bytes: &mut [u8]) -> usize {
 #[cfg(test)]
 mod tests {
     use super::*;
+    use crate::model::{Constraint, Group, Model};
     use crate::settle::settle;
     use crate::sheet::read;
 
@@ -124,5 +125,20 @@ mod tests {
             assert_eq!(write_block(encoding, 2, &mut []), Ok(0));
             assert_eq!(write_block(encoding, 4, &mut []), Err(23));
         });
+    }
+
+    #[test]
+    fn the_largest_sheet() {
+        let group = Group { fixed: 0, possible: u32::MAX.into(), low: 1, high: 31 };
+        let line = |first: usize| Constraint { code: 6, groups: (first..first + 17).map(|group| group % 256).collect() };
+        let model = Model { entrants: 32, groups: vec![group; 256], constraints: (0..256).map(line).collect() };
+        assert_eq!(crate::sheet::write(&model).len(), crate::model::SHEET_BYTES);
+        let settled = settle(model).unwrap();
+        let encoding = Encoding::of(&settled);
+        let text = listing(&encoding);
+        assert!(text.starts_with(b"p cnf 49152 475648\n"));
+        assert_eq!(text.len(), 8_987_411);
+        let mut buffer = vec![0; 32_768];
+        assert!((0..=512).all(|block| write_block(&encoding, block, &mut buffer).is_ok()));
     }
 }

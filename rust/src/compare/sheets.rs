@@ -258,3 +258,40 @@ fn damaged_field(random: &mut Random, sheet: Vec<u8>) -> Vec<u8> {
 fn read_number(field: &[u8]) -> usize {
     String::from_utf8_lossy(field).trim().parse().unwrap_or(0)
 }
+
+#[cfg(test)]
+mod tests {
+    use super::*;
+    use crate::settle::settle;
+
+    #[test]
+    fn every_order_of_the_lines_settles_alike() {
+        let mut random = Random(5);
+        for _ in 0..2_000 {
+            let model = sheet::read(&valid(&mut random).sheet).unwrap();
+            let mut other = model.clone();
+            random.shuffle(&mut other.constraints);
+            let most = 2 * model.groups.len() as u32 * model.entrants + 1;
+            match (settle(model), settle(other)) {
+                (Some(one), Some(other)) => {
+                    assert_eq!(one.model().groups, other.model().groups);
+                    assert!(one.passes() <= most && other.passes() <= most);
+                }
+                (one, other) => assert!(one.is_none() && other.is_none()),
+            }
+        }
+    }
+
+    #[test]
+    fn a_known_draw_is_never_settled_out() {
+        let mut random = Random(6);
+        for _ in 0..2_000 {
+            let sample = valid(&mut random);
+            let Some(draw) = sample.draw else { continue };
+            let settled = settle(sheet::read(&sample.sheet).unwrap()).expect("a sheet with a draw settles");
+            for (group, &set) in settled.model().groups.iter().zip(&draw) {
+                assert!(group.fixed & !set == 0 && set & !group.possible == 0);
+            }
+        }
+    }
+}
