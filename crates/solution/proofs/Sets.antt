@@ -108,4 +108,4 @@ module _ (d ids : List ℕ) (w : ℕ) (cs : List (List Literal)) (j : ℕ) (inv 
   pub clause-passes : (x : ℕ) → x ≡ clauseWord d ids w 0 (getD cs j []) → bitAnd w x ≡ w
       → every (clauseHolds d ids w) cs ≡ every (clauseHolds d ids w) (drop (j + 1) cs)
   unfolding clauseHolds inside
-  clause-passes x e n = next ∙ ap (λ b. b && every (clauseHolds d ids w) (drop (j + 1) cs)) (rw (← e) (eq-eqb (bitAnd w x) w n))
+  clause-passes x e n = next ∙ rw (← e, eq-eqb (bitAnd w x) w n)
