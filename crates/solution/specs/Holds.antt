@@ -1,16 +1,18 @@
 -- What the closing call works out: each group's word, and whether a group's and a constraint's clauses hold.
-use Prim.Native.Nat.{ℕ, _+_, _%_, _^_}
+use Prim.Native.Nat.{ℕ, _+_, _-_, _%_, _^_}
 use mathlib.Core.Bool.{Bool, true, cond, Bool·beq, _&&_, _||_}
-use mathlib.Core.List.{List, [], _∷_}
+use mathlib.Core.List.{List, [], _∷_, _++_, map}
 use lib.Bits.{bitOr}
 use lib.Dec.{ltb}
-use lib.ListN.{getD}
+use lib.ListN.{getD, replicate}
 use Rattle.model.specs.declared.Literal.{Literal}
 use Rattle.model.specs.declared.Literal.the-variants.{Pos, Neg}
 use Rattle.model.specs.declared.Group.{Group}
 use Rattle.model.specs.declared.Constraint.{Constraint}
+use Rattle.model.specs.declared.Closed.{Closed}
 use Rattle.model.specs.Lists.{every, total, range, between}
-use Rattle.model.specs.Words.{less, size, inside, has, wordWhere}
+use Rattle.model.specs.Words.{full, less, size, inside, has, wordWhere}
+use Rattle.model.specs.Limits.{limits}
 use Rattle.model.specs.Clauses.{memberClauses}
 use Rattle.model.specs.Model.{groupAt}
 use Rattle.model.specs.Totalizer.{shape, treeClauses}
@@ -30,6 +32,10 @@ wordOf n a g v = wordWhere (inGroup a g v) n
 -- group g of a table
 unfoldable pub wordAt : ℕ → List Bool → List Group → ℕ → ℕ
 wordAt n a t g = wordOf n a (groupAt t g) (firstVariable t g)
+
+-- groups 1 to s of a table; zero past s
+unfoldable pub tableWords : ℕ → List Bool → List Group → ℕ → List ℕ
+tableWords n a t s = map (wordAt n a t) (range 1 s) ++ replicate (limits .groups - s) 0
 
 -- ---- a group's clauses
 
@@ -70,3 +76,11 @@ clauseHolds d ids w c = inside w (clauseWord d ids w 0 c)
 
 unfoldable pub constraintHolds : List ℕ → ℕ → Constraint → Bool
 constraintHolds d w c = every (clauseHolds d (c .groups) w) (memberClauses (c .code) (c .count))
+
+-- ---- closing
+
+unfoldable pub clausesHold : List Bool → List Group → List Constraint → List ℕ → ℕ → ℕ → Bool
+clausesHold a t cs d n s = every (groupHoldsAt a t d) (range 1 s) && every (constraintHolds d (full n)) cs
+
+unfoldable pub refusedClosing : ℕ → Closed
+refusedClosing x = record { refusal = x; groups = replicate (limits .groups) 0 }

@@ -10,10 +10,11 @@ ghost use Rattle.model.specs.Lists.{every, range};
 ghost use Rattle.model.specs.Limits.{limits};
 ghost use Rattle.model.specs.Words.{full};
 ghost use Rattle.model.specs.Clauses.{memberClauses};
+ghost use Rattle.model.specs.Totalizer.{shape, treeClauses, treeOutputCount};
 ghost use Rattle.model.specs.Assignment.{isSaid};
 ghost use Rattle.model.specs.Solution.{setOf};
-ghost use Rattle.model.specs.Close.{truth, assignmentOf, closed};
-ghost use Rattle.solution.specs.Holds.{inGroup, wordOf, wordAt, trueCount, countsTo, groupHolds, groupHoldsAt, literalWord, clauseWord, clauseHolds, constraintHolds};
+ghost use Rattle.model.specs.Close.{truth, clauseTrue, assignmentOf, closed};
+ghost use Rattle.solution.specs.Holds.{inGroup, wordOf, tableWords, trueCount, countsTo, groupHolds, groupHoldsAt, literalWord, clauseWord, clauseHolds, constraintHolds, clausesHold, refusedClosing};
 use model::Closed;
 use model::Constraint;
 use model::Group;
@@ -136,6 +137,90 @@ fn word_of(values: &[u8], g: Group, v: usize, n: u32) -> u64
     w
 }
 
+// The words of groups 1 to s; zero past s.
+fn words(values: &[u8], groups: [Group; Model::GROUPS], n: u32, s: u32) -> [u64; Model::GROUPS]
+    requires { ⌜ (n ≤ limits .entrants) × (s ≤ limits .groups) ⌝ }
+    ensures { λ r. ⌜ (length r ≡ limits .groups) × (r ≡ tableWords n (assignmentOf (now (values .entry))) (take s groups) s) ⌝ }
+{
+    let firsts = numbering::first_variables(groups, s);
+    let end = s as usize;
+    let mut r = [0u64; Model::GROUPS];
+    let mut i: usize = 0;
+    while i < end {
+        let g = groups[i];
+        r[i] = word_of(values, g, firsts[i] as usize, n);
+        i += 1;
+    }
+    r
+}
+
+// ---- a group's clauses
+
+// A tree of size m, whose leaves start at v and outputs at o: left half, right half, then the node itself.
+fn tree_holds(values: &[u8], m: u32, v: usize, o: usize) -> bool
+    requires { ⌜ (m ≤ 64) × (v + m < 10000000000) × (o + treeOutputCount m < 10000000000) ⌝ }
+    ensures { λ r. ⌜ r ≡ every (clauseTrue (assignmentOf (now (values .entry)))) (treeClauses (shape m) v o) ⌝ }
+{
+    if m < 2 {
+        return true;
+    }
+    let a = m / 2;
+    let b = m - a;
+    let p = o + numbering::output_count(a) as usize;
+    let own = p + numbering::output_count(b) as usize;
+    if !tree_holds(values, a, v, o) {
+        return false;
+    }
+    if !tree_holds(values, b, v + a as usize, p) {
+        return false;
+    }
+    let x = true_count(values, v, m as usize);
+    counts_to(values, own, m as usize, x)
+}
+
+// Group g, whose word is w, whose variables start at v and outputs at o.
+fn group_holds(values: &[u8], g: Group, w: u64, v: usize, o: usize) -> bool
+    requires { ⌜ (v < 5000000000) × (o < 5000000000) ⌝ }
+    ensures { λ r. ⌜ r ≡ groupHolds (assignmentOf (now (values .entry))) g w v o ⌝ }
+{
+    let count = u64::count_ones(w);
+    if count < g.low {
+        return false;
+    }
+    if g.high < count {
+        return false;
+    }
+    let c = numbering::counter_of(g);
+    if !c.exists {
+        return true;
+    }
+    tree_holds(values, c.free, v, o)
+}
+
+// Groups 1 to s.
+fn groups_hold(
+    values: &[u8],
+    groups: [Group; Model::GROUPS],
+    words: [u64; Model::GROUPS],
+    s: u32,
+) -> bool
+    requires { ⌜ s ≤ limits .groups ⌝ }
+    ensures { λ r. ⌜ r ≡ every (groupHoldsAt (assignmentOf (now (values .entry))) (take s groups) words) (range 1 s) ⌝ }
+{
+    let firsts = numbering::first_variables(groups, s);
+    let outputs = numbering::first_outputs(groups, s);
+    let end = s as usize;
+    let mut i: usize = 0;
+    while i < end {
+        let g = groups[i];
+        if !group_holds(values, g, words[i], firsts[i] as usize, outputs[i] as usize) {
+            return false;
+        }
+        i += 1;
+    }
+    true
+}
+
 // ---- a constraint
 
 // Group number i of a constraint; 0 where it has none.
@@ -244,4 +329,74 @@ fn constraints_hold(
         j += 1;
     }
     true
+}
+
+// ---- closing
+
+// Entrants 1 to n.
+fn entrants(n: u32) -> u64
+    requires { ⌜ n ≤ limits .entrants ⌝ }
+    ensures { λ r. ⌜ r ≡ full n ⌝ }
+{
+    (1 << n) - 1
+}
+
+// Every clause of the listing; the arrays are whole.
+fn clauses_hold(
+    values: &[u8],
+    groups: [Group; Model::GROUPS],
+    constraints: [Constraint; Model::CONSTRAINTS],
+    words: [u64; Model::GROUPS],
+    n: u32,
+    s: u32,
+    c: u32,
+) -> bool
+    requires { ⌜ (n ≤ limits .entrants) × (s ≤ limits .groups) × (c ≤ limits .constraints) ⌝ }
+    ensures { λ r. ⌜ (length groups ≡ limits .groups) × (length constraints ≡ limits .constraints) ⌝ }
+    ensures { λ r. ⌜ r ≡ clausesHold (assignmentOf (now (values .entry))) (take s groups) (take c constraints) words n s ⌝ }
+{
+    if !groups_hold(values, groups, words, s) {
+        return false;
+    }
+    constraints_hold(words, constraints, c as usize, entrants(n))
+}
+
+fn refused(refusal: u32) -> Closed
+    ensures { λ r. ⌜ r ≡ refusedClosing refusal ⌝ }
+{
+    Closed {
+        refusal,
+        groups: [0; Model::GROUPS],
+    }
+}
+
+// The groups that the values say; or refusal 20, 22, 26, 27 or 28, and zeros.
+pub fn close(m: Model, r: Reading, values: &[u8]) -> Closed
+    ensures { λ a. ⌜ a ≡ closed m r (now (values .entry)) ⌝ }
+{
+    if !m.in_range() {
+        return refused(20);
+    }
+    if !propagate::is_fixpoint(m) {
+        return refused(22);
+    }
+    let groups = m.groups;
+    if values.len() != numbering::variable_count(groups, m.s) as usize {
+        return refused(26);
+    }
+    if !r.closed {
+        return refused(27);
+    }
+    if !all_said(values) {
+        return refused(27);
+    }
+    let found = words(values, groups, m.n, m.s);
+    let constraints = m.constraints;
+    if !clauses_hold(values, groups, constraints, found, m.n, m.s, m.c) {
+        return refused(28);
+    }
+    Closed {
+        refusal: 0,
+        groups: found,
+    }
 }
