@@ -1,3 +1,5 @@
 pub mod Values
 pub mod Sets
 pub mod Trees
+pub mod Groups
+pub mod Clauses

@@ -24,6 +24,12 @@ use model::Reading;
 
 // ---- variables
 
+fn wide(x: u32) -> usize
+    ensures { λ r. ⌜ (r ≡ x) × (r < 5000000000) ⌝ }
+{
+    x as usize
+}
+
 // Whether variable v is true; one that is not there is false.
 fn is_true(values: &[u8], v: usize) -> bool
     ensures { λ r. ⌜ r ≡ truth (assignmentOf (now (values .entry))) v ⌝ }
@@ -148,7 +154,8 @@ fn words(values: &[u8], groups: [Group; Model::GROUPS], n: u32, s: u32) -> [u64;
     let mut i: usize = 0;
     while i < end {
         let g = groups[i];
-        r[i] = word_of(values, g, firsts[i] as usize, n);
+        let v = wide(firsts[i]);
+        r[i] = word_of(values, g, v, n);
         i += 1;
     }
     r
@@ -213,7 +220,9 @@ fn groups_hold(
     let mut i: usize = 0;
     while i < end {
         let g = groups[i];
-        if !group_holds(values, g, words[i], firsts[i] as usize, outputs[i] as usize) {
+        let v = wide(firsts[i]);
+        let o = wide(outputs[i]);
+        if !group_holds(values, g, words[i], v, o) {
             return false;
         }
         i += 1;
