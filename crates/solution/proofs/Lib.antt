@@ -3,3 +3,4 @@ pub mod Sets
 pub mod Trees
 pub mod Groups
 pub mod Clauses
+pub mod Closing

@@ -60,7 +60,7 @@ group-holds-requires c κs = search needs
 
 returns : tie.Need-returns Inv-loop μ-loop
 unfolding zeroGroup
-returns c =     let a = assignmentOf (c .before .before .before .before .before .before .before .before .before .before .args .values .now) in
+returns c = let a = assignmentOf (c .before .before .before .before .before .before .before .before .before .before .args .values .now) in
     let t = take (c .before .before .before .before .before .before .before .before .before .before .args .s) (c .before .before .before .before .before .before .before .before .before .before .args .t2) in
     let v = variable-is t (c .before .before .before .before .before .before .before .before .first-variables .result) (c .before .before .before .before .before .before .loop .i) (c .before .before .before .wide .result) (c .before .before .before .before .before .before .before .before .first-variables .ensures .1) (omega arith) (c .before .before .before .wide .ensures .0) in
     let o = output-is t (c .before .before .before .before .before .before .before .first-outputs .result) (c .before .before .before .before .before .before .loop .i) (c .before .before .wide2 .result) (c .before .before .before .before .before .before .before .first-outputs .ensures .1) (omega arith) (c .before .before .wide2 .ensures .0) in
@@ -75,7 +75,7 @@ loop-less c = omega arith
 
 loop-again : tie.Need-loop-again Inv-loop μ-loop
 unfolding zeroGroup
-loop-again c =     let a = assignmentOf (c .before .before .before .before .before .before .before .before .before .before .args .values .now) in
+loop-again c = let a = assignmentOf (c .before .before .before .before .before .before .before .before .before .before .args .values .now) in
     let t = take (c .before .before .before .before .before .before .before .before .before .before .args .s) (c .before .before .before .before .before .before .before .before .before .before .args .t2) in
     let v = variable-is t (c .before .before .before .before .before .before .before .before .first-variables .result) (c .before .before .before .before .before .before .loop .i) (c .before .before .before .wide .result) (c .before .before .before .before .before .before .before .before .first-variables .ensures .1) (omega arith) (c .before .before .before .wide .ensures .0) in
     let o = output-is t (c .before .before .before .before .before .before .before .first-outputs .result) (c .before .before .before .before .before .before .loop .i) (c .before .before .wide2 .result) (c .before .before .before .before .before .before .before .first-outputs .ensures .1) (omega arith) (c .before .before .wide2 .ensures .0) in

@@ -58,7 +58,7 @@ loop-less c = omega arith
 
 loop-again : tie.Need-loop-again Inv-loop μ-loop
 unfolding zeroGroup
-loop-again c =     let a = assignmentOf (c .before .before .before .before .before .before .before .args .values .now) in
+loop-again c = let a = assignmentOf (c .before .before .before .before .before .before .before .args .values .now) in
     let t = take (c .before .before .before .before .before .before .before .args .s) (c .before .before .before .before .before .before .before .args .t2) in
     let v = variable-is t (c .before .before .before .before .before .first-variables .result) (c .before .before .before .before .loop .i) (c .before .wide .result) (c .before .before .before .before .before .first-variables .ensures .1) (omega arith) (c .before .wide .ensures .0) in
     let x = word-at (c .before .before .before .before .before .before .before .args .n) a t (c .before .before .before .before .loop .i) _ _ _ (group-is (c .before .before .before .before .before .before .before .args .t2) (c .before .before .before .before .before .before .before .args .s) (c .before .before .before .before .loop .i) (omega arith)) v (c .word-of .ensures) in
