@@ -2,11 +2,11 @@
 use mathlib.Core.Path.{_≡_, refl, sym, ap, ap₂, _∙_, subst}
 use mathlib.Core.Bool.{Bool, true, false, cond, not, _&&_, _||_}
 use mathlib.Core.List.{List, [], _∷_, _++_, map}
-use Prim.Native.Nat.{ℕ, zero, suc, _+_, _-_, _≤_, _<_}
+use Prim.Native.Nat.{ℕ, _+_, _-_, _≤_, _<_}
 use native.Mathlib.Omega.{arith}
 use lib.Bits.{bitOr}
 use lib.Dec.{T, leb, le→leb}
-use lib.ListN.{length, getD, replicate, List·getD-append}
+use lib.ListN.{getD, replicate, List·getD-append}
 use Rattle.model.specs.declared.Literal.{Literal}
 use Rattle.model.specs.declared.Literal.the-variants.{Pos, Neg}
 use Rattle.model.specs.declared.Group.{Group}
@@ -14,24 +14,24 @@ use Rattle.model.specs.declared.Constraint.{Constraint}
 use Rattle.model.specs.declared.Model.{Model}
 use Rattle.model.specs.Lists.{every, any, each, range, between}
 use Rattle.model.specs.Limits.{limits}
-use Rattle.model.specs.Words.{full, less, size, inside, has, wordWhere}
+use Rattle.model.specs.Words.{full, size, has}
 use Rattle.model.specs.Clauses.{memberClauses}
 use Rattle.model.specs.Model.{zeroGroup, groupAt, tableOf, constraintsOf, constraintInRange, inRange}
 use Rattle.model.specs.Propagate.{isFixpoint}
 use Rattle.model.specs.Totalizer.{shape, treeClauses, totalizerClauses}
-use Rattle.model.specs.Cnf.{openOf, openCount, atLeast, atMost, counted, firstVariable, variableOf, groupClauses, membership, clausesAt, constraintClauses, clauses}
+use Rattle.model.specs.Cnf.{openOf, openCount, atLeast, atMost, counted, firstVariable, variableOf, groupClauses, membership, clausesAt, constraintClauses}
 use Rattle.model.specs.Solution.{setOf}
 use Rattle.model.specs.Close.{truth, termTrue, clauseTrue, satisfying, groupBy, groupsBy, closedGroups}
 use Rattle.model.proofs.Words.{has-zero, has-or, has-less, has-where, one-has, bit-full, full-lt, word-ext}
 use Rattle.model.proofs.Lists.{T-ext, T-true, and-left, and-right, and-both, or-assoc, every-append, every-each, every-ext, every-range-ext, every-all-ext, every-all, all-imp, all-place, values-make, values-length, getD-map-range}
 use Rattle.encoding_laws.proofs.Sized.{Sized}
 use Rattle.encoding_laws.proofs.Truth.{allTrue}
-use Rattle.encoding_laws.proofs.Tree.{count, count-le, valuesFrom, Filled, tree-iff}
+use Rattle.encoding_laws.proofs.Tree.{count, count-le, valuesFrom, tree-iff}
 use Rattle.encoding_laws.proofs.Totalizer.{totalizer-iff}
 use Rattle.encoding_laws.proofs.Groups.{table-length, clauses-parts}
 use Rattle.encoding_laws.proofs.Fixpoint.{Stable, in-range, table-stable}
 use Rattle.encoding_laws.proofs.Members.{between-le, code-six, member-below}
-use Rattle.encoding_laws.proofs.Meaning.{memberTrue, meaningAt, clauses-meaning, meaning-ext, below, inside-words}
+use Rattle.encoding_laws.proofs.Meaning.{memberTrue, clauses-meaning, meaning-ext, below, inside-words}
 use Rattle.encoding_laws.proofs.Row.{rowWord, row-size}
 use Rattle.encoding_laws.proofs.Whole.{OpenLimits, limits-of, counted-pos, uncounted, open-apart, open-lt, fixed-lt, member-true, entrant-true}
 use Rattle.solution.specs.Holds.{inGroup, wordOf, wordAt, tableWords, groupHolds, groupHoldsAt, literalWord, clauseWord, clauseHolds, constraintHolds, clausesHold}

@@ -1,17 +1,16 @@
 -- Laws of groups: the answers of one group's test, and the loops over the table. Assumes nothing.
-use mathlib.Core.Path.{_≡_, refl, sym, ap, ap₂, _∙_}
-use mathlib.Core.Bool.{Bool, true, false, cond, _&&_}
-use mathlib.Core.List.{List, [], _∷_, _++_, map}
-use Prim.Native.Nat.{ℕ, zero, suc, _+_, _-_, _≤_, _<_}
+use mathlib.Core.Path.{_≡_, sym, ap, ap₂, _∙_}
+use mathlib.Core.Bool.{Bool, true, false}
+use mathlib.Core.List.{List, _∷_, _++_, map}
+use Prim.Native.Nat.{ℕ, suc, _+_, _-_, _≤_, _<_}
 use native.Mathlib.Omega.{arith}
 use lib.Count.{ones}
-use lib.ListN.{length, getD, set, take, replicate, length-take}
+use lib.ListN.{getD, set, take, replicate}
 use lib.Seq.{set-at, append-snoc, getD-take}
 use borrow.Author.Tests.{le-leb, lt-leb}
 use Rattle.model.specs.declared.Group.{Group}
-use Rattle.model.specs.Lists.{every, range, between}
+use Rattle.model.specs.Lists.{every, range}
 use Rattle.model.specs.Limits.{limits}
-use Rattle.model.specs.Words.{size}
 use Rattle.model.specs.Model.{zeroGroup, groupAt}
 use Rattle.model.specs.Totalizer.{shape, treeClauses}
 use Rattle.model.specs.Cnf.{openCount, counted, firstVariable, firstOutput}

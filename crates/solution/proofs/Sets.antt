@@ -1,8 +1,8 @@
 -- Laws of words: a group's, entrant by entrant, and a clause's, literal by literal. Assumes nothing.
-use mathlib.Core.Path.{_≡_, refl, sym, ap, ap₂, _∙_}
-use mathlib.Core.Bool.{Bool, true, false, cond, _&&_, _||_}
-use mathlib.Core.List.{List, [], _∷_}
-use Prim.Native.Nat.{ℕ, zero, suc, _+_, _-_, _*_, _/_, _%_, _^_, _≤_, _<_}
+use mathlib.Core.Path.{_≡_, refl, sym, ap, _∙_}
+use mathlib.Core.Bool.{Bool, true, false, cond, _&&_}
+use mathlib.Core.List.{List, []}
+use Prim.Native.Nat.{ℕ, _+_, _-_, _*_, _/_, _%_, _^_, _≤_, _<_}
 use native.Mathlib.Nat.{one-mul, mod-lt}
 use native.Mathlib.Numerals.{add-one}
 use native.Mathlib.Omega.{arith}
@@ -15,7 +15,7 @@ use Rattle.model.specs.declared.Literal.{Literal}
 use Rattle.model.specs.declared.Literal.the-variants.{Pos, Neg}
 use Rattle.model.specs.declared.Group.{Group}
 use Rattle.model.specs.Lists.{every}
-use Rattle.model.specs.Words.{less, size, bit, has, wordWhere, inside}
+use Rattle.model.specs.Words.{less, bit, has, wordWhere, inside}
 use Rattle.model.specs.Cnf.{openOf}
 use Rattle.model.specs.Solution.{setOf}
 use Rattle.model.specs.Close.{truth}
@@ -24,7 +24,7 @@ use Rattle.model.proofs.Loops.{drop-next, every-next}
 use Rattle.solution.specs.Holds.{inGroup, wordOf, literalWord, clauseWord, clauseHolds}
 
 -- `1 << e` is 2 to the e
-pub power : (e : ℕ) → e < 32 → 1 * 2 ^ e % 2 ^ 64 ≡ 2 ^ e
+pub power : (e : ℕ) → e < 64 → 1 * 2 ^ e % 2 ^ 64 ≡ 2 ^ e
 power e h = shl-exact 1 e 64 (omega arith) (omega arith) ∙ one-mul (2 ^ e)
 
 -- ---- an entrant of a group

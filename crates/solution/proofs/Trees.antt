@@ -2,18 +2,17 @@
 use mathlib.Core.Path.{_≡_, refl, sym, ap, _∙_, subst}
 use mathlib.Core.Logic.{_↔_}
 use mathlib.Core.Bool.{Bool, true, false, cond, Bool·beq, _&&_}
-use mathlib.Core.List.{List, [], _∷_, map}
+use mathlib.Core.List.{List, _∷_}
 use Prim.Native.Nat.{ℕ, zero, suc, _+_, _-_, _/_, _≤_, _<_, min}
-use native.Mathlib.Nat.{zero-add}
 use native.Mathlib.Omega.{arith}
 use lib.Dec.{T, ltb}
-use Rattle.model.specs.Lists.{every, total, range}
-use Rattle.model.specs.Totalizer.{Shape, leaf, node, shape, leaves, outputs, treeClauses, treeOutputCount}
+use Rattle.model.specs.Lists.{total, range}
+use Rattle.model.specs.Totalizer.{Shape, node, shape, leaves, outputs, treeClauses, treeOutputCount}
 use Rattle.model.specs.Close.{truth}
 use Rattle.model.proofs.Lists.{T-ext, every-range, range-every}
 use Rattle.encoding_laws.proofs.Truth.{allTrue, T-and}
 use Rattle.encoding_laws.proofs.Node.{Unary}
-use Rattle.encoding_laws.proofs.Tree.{count, valuesFrom, trues, trues-add, Filled, parts, tree-iff}
+use Rattle.encoding_laws.proofs.Tree.{count, valuesFrom, trues, trues-add, parts, tree-iff}
 use Rattle.encoding_laws.proofs.Totalizer.{leaves-shape, shape-one, shape-step}
 use Rattle.encoding_laws.proofs.Counts.{outputs-count, output-count-step}
 use Rattle.numbering.proofs.Counters.{within-word}

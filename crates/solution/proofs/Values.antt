@@ -6,10 +6,10 @@ use Prim.Native.Nat.{ℕ, zero, suc, _+_, _-_, _≤_, _<_}
 use native.Mathlib.Nat.{add-zero}
 use native.Mathlib.Numerals.{add-one}
 use native.Mathlib.Omega.{arith}
-use lib.Dec.{leb, eqb, ltb}
-use lib.ListN.{length, getD, drop, length-map, List·getD-eq-default}
+use lib.Dec.{eqb, ltb}
+use lib.ListN.{length, getD, length-map, List·getD-eq-default}
 use borrow.Author.Tests.{le-leb, lt-leb, not-true, not-false}
-use Rattle.model.specs.Lists.{every, total, range, between}
+use Rattle.model.specs.Lists.{every, total, range}
 use Rattle.model.specs.Assignment.{isSaid}
 use Rattle.model.specs.Close.{truth, assignmentOf}
 use Rattle.model.proofs.Lists.{getD-map-in, range-last, total-append}

@@ -26,6 +26,7 @@ use Rattle.model.specs.Close.{truth, clauseTrue}
 abbrev pub inGroup : List Bool → Group → ℕ → ℕ → Bool
 inGroup a g v e = has (g .fixed) e || (has (openOf g) e && truth a (v + size (openOf g % 2 ^ e)))
 
+-- the bits below n
 unfoldable pub wordOf : ℕ → List Bool → Group → ℕ → ℕ
 wordOf n a g v = wordWhere (inGroup a g v) n
 
@@ -71,16 +72,20 @@ abbrev pub clauseWord : List ℕ → List ℕ → ℕ → ℕ → List Literal �
 clauseWord d ids w x [] = x
 clauseWord d ids w x (l ∷ ls) = clauseWord d ids w (bitOr x (literalWord d ids w l)) ls
 
+-- a clause holds for every entrant of w
 unfoldable pub clauseHolds : List ℕ → List ℕ → ℕ → List Literal → Bool
 clauseHolds d ids w c = inside w (clauseWord d ids w 0 c)
 
+-- so do all of a constraint's
 unfoldable pub constraintHolds : List ℕ → ℕ → Constraint → Bool
 constraintHolds d w c = every (clauseHolds d (c .groups) w) (memberClauses (c .code) (c .count))
 
 -- ---- closing
 
+-- groups 1 to s of the table t, and the constraints cs
 unfoldable pub clausesHold : List Bool → List Group → List Constraint → List ℕ → ℕ → ℕ → Bool
 clausesHold a t cs d n s = every (groupHoldsAt a t d) (range 1 s) && every (constraintHolds d (full n)) cs
 
+-- the number and zeros
 unfoldable pub refusedClosing : ℕ → Closed
 refusedClosing x = record { refusal = x; groups = replicate (limits .groups) 0 }

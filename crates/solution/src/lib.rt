@@ -1,11 +1,10 @@
 // Closing: whether the values satisfy every clause, and the groups that they say. The last step of the chain.
 // A totalizer's outputs are compared with the count of its leaves, and a constraint's clauses are judged for all entrants at once.
 ghost use mathlib.Core.Path.{_≡_};
-ghost use mathlib.Core.Bool.{cond, _&&_};
-ghost use mathlib.Core.List.{[], _++_, map};
-ghost use Prim.Native.Nat.{ℕ, _+_, _-_, _^_, _≤_, _<_};
-ghost use lib.Dec.{T};
-ghost use lib.ListN.{length, getD, take, replicate};
+ghost use mathlib.Core.Bool.{cond};
+ghost use mathlib.Core.List.{[]};
+ghost use Prim.Native.Nat.{_+_, _-_, _^_, _≤_, _<_};
+ghost use lib.ListN.{length, getD, take};
 ghost use Rattle.model.specs.Lists.{every, range};
 ghost use Rattle.model.specs.Limits.{limits};
 ghost use Rattle.model.specs.Words.{full};

@@ -1,7 +1,7 @@
 -- `all_said` looks at each value. Invariant: the test of all is the test of those from i on. Assumes nothing.
 use Rattle.solution.proofs.Values.{is-said, unsaid-low, unsaid-high}
 use Rattle.model.proofs.Loops.{every-next, every-end}
-use mathlib.Core.Path.{_≡_, refl, sym, ap, _∙_}
+use mathlib.Core.Path.{_≡_, refl, sym, _∙_}
 use Prim.Native.Nat.{_≤_, _-_}
 use lib.ListN.{length, drop}
 use Rattle.model.specs.Lists.{every}

@@ -2,7 +2,7 @@
 use Rattle.solution.proofs.Sets.{clause-next, clause-done}
 use mathlib.Core.Path.{_≡_, refl}
 use mathlib.Core.List.{[]}
-use Prim.Native.Nat.{_≤_, _-_}
+use Prim.Native.Nat.{_-_}
 use lib.ListN.{length, getD, drop}
 use Rattle.model.specs.Clauses.{memberClauses}
 use Rattle.solution.specs.Holds.{clauseWord}

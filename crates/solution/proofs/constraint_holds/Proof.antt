@@ -5,9 +5,8 @@ use Rattle.model.proofs.Loops.{every-end}
 use Rattle.model.specs.Clauses.{memberClauses}
 use Rattle.model.specs.Lists.{every}
 use lib.ListN.{length, drop}
-use Prim.Native.Nat.{_≤_, _-_}
-use mathlib.Core.List.{[]}
-use mathlib.Core.Path.{_≡_, refl, sym, ap, _∙_}
+use Prim.Native.Nat.{_-_}
+use mathlib.Core.Path.{_≡_, refl, sym, _∙_}
 use native.Mathlib.Omega.{arith}
 use borrow.Author.Needs.{needs}
 use Rattle.solution.proofs.constraint_holds.Statement.{statement}

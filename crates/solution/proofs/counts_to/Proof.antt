@@ -1,8 +1,8 @@
 -- `counts_to` compares output by output. Invariant: the test of all is the test of those from i on. Assumes nothing.
 use Rattle.solution.proofs.Values.{output-wrong, output-right}
 use native.Mathlib.Nat.{sub-zero}
-use Rattle.model.proofs.Loops.{range-goes, range-stops, range-done}
-use mathlib.Core.Path.{_≡_, refl, sym, ap, _∙_}
+use Rattle.model.proofs.Loops.{range-done}
+use mathlib.Core.Path.{_≡_, sym, ap}
 use Prim.Native.Nat.{_≤_, _-_, ℕ}
 use Rattle.model.specs.Lists.{every, range}
 use Rattle.model.specs.Close.{assignmentOf}

@@ -23,20 +23,20 @@ shl-below : tie.Need-shl-below
 shl-below c = search needs
 
 rem-below : tie.Need-rem-below
-rem-below c = omega (arith, power (c .before .before .before .before .before .before .args .e) (c .before .before .before .before .before .before .pre .1), pow-pos (c .before .before .before .before .before .before .args .e))
+rem-below c = omega (arith, power (c .before .before .before .before .before .before .args .e) (omega arith), pow-pos (c .before .before .before .before .before .before .args .e))
 
 cast-is-true : tie.Need-cast-is-true
-cast-is-true c = let g = (c .before .before .before .before .before .before .args .g) in omega (arith, below-few (bitXor (g .possible) (bitAnd (g .possible) (g .fixed))) (c .before .before .before .before .before .before .args .e) _ (power (c .before .before .before .before .before .before .args .e) (c .before .before .before .before .before .before .pre .1)))
+cast-is-true c = let g = (c .before .before .before .before .before .before .args .g) in omega (arith, below-few (bitXor (g .possible) (bitAnd (g .possible) (g .fixed))) (c .before .before .before .before .before .before .args .e) _ (power (c .before .before .before .before .before .before .args .e) (omega arith)))
 
 add-is-true : tie.Need-add-is-true
-add-is-true c = let g = (c .before .before .before .before .before .before .args .g) in omega (arith, below-few (bitXor (g .possible) (bitAnd (g .possible) (g .fixed))) (c .before .before .before .before .before .before .args .e) _ (power (c .before .before .before .before .before .before .args .e) (c .before .before .before .before .before .before .pre .1)))
+add-is-true c = let g = (c .before .before .before .before .before .before .args .g) in omega (arith, below-few (bitXor (g .possible) (bitAnd (g .possible) (g .fixed))) (c .before .before .before .before .before .before .args .e) _ (power (c .before .before .before .before .before .before .args .e) (omega arith)))
 
 is-true-requires : tie.Need-is-true-requires
 is-true-requires c κs = search needs
 
 returns-2 : tie.Need-returns-2
 unfolding openOf less
-returns-2 c = in-open (assignmentOf (c .before .before .before .before .before .before .before .args .values .now)) (c .before .before .before .before .before .before .before .args .g) (c .before .before .before .before .before .before .before .args .v) (c .before .before .before .before .before .before .before .args .e) (c .before .before .before .before .if1 .left) (c .before .if2 .taken) _ (power (c .before .before .before .before .before .before .before .args .e) (c .before .before .before .before .before .before .before .pre .1)) _ (c .is-true .ensures)
+returns-2 c = in-open (assignmentOf (c .before .before .before .before .before .before .before .args .values .now)) (c .before .before .before .before .before .before .before .args .g) (c .before .before .before .before .before .before .before .args .v) (c .before .before .before .before .before .before .before .args .e) (c .before .before .before .before .if1 .left) (c .before .if2 .taken) _ (power (c .before .before .before .before .before .before .before .args .e) (omega arith)) _ (c .is-true .ensures)
 
 returns-3 : tie.Need-returns-3
 unfolding openOf less

@@ -5,8 +5,8 @@ use Rattle.model.specs.Close.{assignmentOf}
 use Rattle.model.specs.Model.{zeroGroup}
 use Rattle.model.specs.Limits.{limits}
 use lib.ListN.{length, take, length-set}
-use Prim.Native.Nat.{ℕ, _≤_, _-_}
-use mathlib.Core.Path.{_≡_, refl, sym, ap, _∙_}
+use Prim.Native.Nat.{_≤_, _-_}
+use mathlib.Core.Path.{_≡_, refl, ap, _∙_}
 use native.Mathlib.Omega.{arith}
 use borrow.Author.Needs.{needs}
 use Rattle.solution.proofs.words.Statement.{statement}
