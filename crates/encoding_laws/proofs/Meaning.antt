@@ -126,17 +126,17 @@ meaning-ext code k b c t =
 
 -- ---- every entrant below n: sets without bits past n
 
-record Below (n w : ℕ) : Type 0 where
-  past : (e : ℕ) → n ≤ e → bit e w ≡ 0
+pub record Below (n w : ℕ) : Type 0 where
+  pub past : (e : ℕ) → n ≤ e → bit e w ≡ 0
 
-below : (n w : ℕ) → w < 2 ^ n → Below n w
+pub below : (n w : ℕ) → w < 2 ^ n → Below n w
 below n w h = record { past = λ e l. bit-past n e w h l }
 
-beq-refl : (b : Bool) → T (Bool·beq b b)
+pub beq-refl : (b : Bool) → T (Bool·beq b b)
 beq-refl true = tt
 beq-refl false = tt
 
-beq-eq : (b c : Bool) → T (Bool·beq b c) → b ≡ c
+pub beq-eq : (b c : Bool) → T (Bool·beq b c) → b ≡ c
 beq-eq true true t = refl
 beq-eq true false t = absurd t
 beq-eq false true t = absurd t
@@ -159,7 +159,7 @@ equal-words n x y bx by =
     go t e (yes l) = same-bit x y e (beq-eq (has x e) (has y e) (every-range (λ e. Bool·beq (has x e) (has y e)) 0 n t e (omega arith) (omega arith)))
     go t e (no l) = bx .past e (omega arith) ∙ sym (by .past e (omega arith))
 
-inside-words : (n x y : ℕ) → Below n x → inside x y ≡ every (λ e. not (has x e) || has y e) (range 0 n)
+pub inside-words : (n x y : ℕ) → Below n x → inside x y ≡ every (λ e. not (has x e) || has y e) (range 0 n)
 inside-words n x y bx =
     T-ext (inside x y) (every (λ e. not (has x e) || has y e) (range 0 n))
     (λ t. range-every (λ e. not (has x e) || has y e) 0 n (λ e l h. to e (inside-sub x y t .at e) (has x e) refl))

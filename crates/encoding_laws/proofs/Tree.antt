@@ -66,7 +66,7 @@ module _ (a : List Bool) where
   unfolding trues
   trues-le v m = rw (values-length (truth a) v m) at (count-le (valuesFrom v m))
 
-  trues-add : (v k m : ℕ) → trues v (k + m) ≡ trues v k + trues (v + k) m
+  pub trues-add : (v k m : ℕ) → trues v (k + m) ≡ trues v k + trues (v + k) m
   unfolding trues
   trues-add v k m = rw (values-append (truth a) v k m) (count-append (valuesFrom v k) (valuesFrom (v + k) m))
 
@@ -76,7 +76,7 @@ module _ (a : List Bool) where
     λ u. values-make (truth a) (λ i. ltb i x) o 0 m (λ k h. rw (zero-add k) (u k h)),
   )
 
-  abbrev Parts : Shape → Shape → ℕ → ℕ → Type 0
+  abbrev pub Parts : Shape → Shape → ℕ → ℕ → Type 0
   Parts l r v o =
       Filled l v o
       × (Filled r (v + leaves l) (o + outputs l)
@@ -106,7 +106,7 @@ module _ (a : List Bool) where
           count-append (valuesFrom v (leaves l)) (valuesFrom (v + leaves l) (leaves r)),
         )
 
-    parts : Filled (node l r) v o ↔ Parts l r v o
+    pub parts : Filled (node l r) v o ↔ Parts l r v o
     parts =
         let n : ℕ = o + outputs l + outputs r in
         let x : ℕ = trues v (leaves l) + trues (v + leaves l) (leaves r) in

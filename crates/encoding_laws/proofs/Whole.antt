@@ -70,14 +70,14 @@ counted-pos L U m h t = go (decLt 0 L)
     go (yes l) = omega arith
     go (no l) = let k = ltb→lt U m (rw (T-false (ltb 0 L) (le→nltb 0 L (omega arith))) at t) in omega arith
 
-uncounted : (L U m : ℕ) → T (not (ltb 0 L || ltb U m)) → (L ≤ 0) × (m ≤ U)
+pub uncounted : (L U m : ℕ) → T (not (ltb 0 L || ltb U m)) → (L ≤ 0) × (m ≤ U)
 uncounted L U m t = go (decLt 0 L)
   where
     go : Dec (0 < L) → (L ≤ 0) × (m ≤ U)
     go (yes l) = absurd (rw (T-true (ltb 0 L) (lt→ltb 0 L l)) at t)
     go (no l) = (omega arith, nltb→le U m (rw (T-false (ltb 0 L) (le→nltb 0 L (omega arith))) at t))
 
-open-apart : (n : ℕ) (r : Group) → Stable n r → Apart (r .fixed) (openOf r)
+pub open-apart : (n : ℕ) (r : Group) → Stable n r → Apart (r .fixed) (openOf r)
 unfolding openOf
 open-apart n r s = record { bits = λ e. omega (arith, bit-less e (r .possible) (r .fixed), s .sub .at e, bit-le e (r .possible)) }
 
@@ -85,7 +85,7 @@ pub open-lt : (n : ℕ) (r : Group) → Stable n r → openOf r < 2 ^ n
 unfolding openOf
 open-lt n r s = let h = sub-le (sub-less (r .possible) (r .fixed)) in omega (arith, s .bound)
 
-fixed-lt : (n : ℕ) (r : Group) → Stable n r → r .fixed < 2 ^ n
+pub fixed-lt : (n : ℕ) (r : Group) → Stable n r → r .fixed < 2 ^ n
 fixed-lt n r s = let h = sub-le (s .sub) in omega (arith, s .bound)
 
 -- the values of a group's outputs
@@ -185,7 +185,7 @@ allowed-holding n r w s t =
     )
 
 -- a group's term for an entrant, by the group's words
-member-true : (a : List Bool) (t : List Group) (g e : ℕ)
+pub member-true : (a : List Bool) (t : List Group) (g e : ℕ)
     → termTrue a (membership t e g) ≡ inRow (truth a) (groupAt t g .fixed) (openOf (groupAt t g)) (firstVariable t g) e
 unfolding membership variableOf openOf
 member-true a t g e = go (has (r .fixed) e) refl (has (r .possible) e) refl
@@ -308,7 +308,7 @@ module _ (m : Model) (a : List Bool) where
       (all-of (λ g. groupBy m a g < 2 ^ m .n) (λ g. where-lt (λ e. termTrue a (membership (tableOf m) e g)) (m .n)) (range 1 (m .s)))
 
   -- a constraint's clauses for one entrant
-  entrant-true : (c : Constraint) (e : ℕ) → T (between 1 6 (c .code))
+  pub entrant-true : (c : Constraint) (e : ℕ) → T (between 1 6 (c .code))
       → allTrue a (clausesAt (tableOf m) c e) ≡ meaningAt (c .code) (c .count) (λ i. termTrue a (membership (tableOf m) e (getD (c .groups) i 0)))
   unfolding clausesAt clausesOf
   entrant-true c e t =

@@ -103,3 +103,20 @@ pub fn refused_at(fd: i32, refusal: u32, line: u32) {
     say(fd, b"\n");
     meaning(fd, refusal);
 }
+
+// `line L: refused N: ` and the meaning, of a solver's line.
+pub fn refused_line(fd: i32, line: u64, refusal: u32) {
+    say(fd, b"line ");
+    io::print_decimal(fd, line);
+    say(fd, b": ");
+    number(fd, refusal);
+    say(fd, b": ");
+    meaning(fd, refusal);
+}
+
+// `line L: too long, not read`
+pub fn long_line(fd: i32, line: u64) {
+    say(fd, b"line ");
+    io::print_decimal(fd, line);
+    say(fd, b": too long, not read\n");
+}

@@ -1,0 +1,43 @@
+-- `with_values` lends as many values as there are variables. Assumes nothing.
+use lib.ListN.{length-take}
+use native.Mathlib.Omega.{arith}
+use borrow.Author.Needs.{needs}
+use Rattle.read_solution.proofs.with_values.Statement.{statement}
+use Rattle.read_solution.proofs.with_values.Tie as tie
+
+variable-count-requires : tie.Need-variable-count-requires
+variable-count-requires c κs = search needs
+
+cast-v : tie.Need-cast-v
+cast-v c = search needs
+
+unsaid-requires : tie.Need-unsaid-requires
+unsaid-requires c κs = search needs
+
+array-borrow-prefix-all : tie.Need-array-borrow-prefix-all
+array-borrow-prefix-all c = search needs
+
+slice-aggregate-read-back : tie.Need-slice-aggregate-read-back
+slice-aggregate-read-back c = simp length-take (omega (arith, (c .before .before .unsaid .ensures)))
+
+read-back-requires : tie.Need-read-back-requires
+read-back-requires c κs = search needs
+
+returns : tie.Need-returns
+returns c = search needs
+
+returns-2 : tie.Need-returns-2
+returns-2 c = search needs
+
+pub with-values-spec : {M : Type 1} → statement M
+with-values-spec =
+    tie.close
+    (tie.spec
+    variable-count-requires
+    cast-v
+    unsaid-requires
+    array-borrow-prefix-all
+    slice-aggregate-read-back
+    read-back-requires
+    returns
+    returns-2)

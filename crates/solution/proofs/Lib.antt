@@ -1,0 +1,6 @@
+pub mod Values
+pub mod Sets
+pub mod Trees
+pub mod Groups
+pub mod Clauses
+pub mod Closing

@@ -1,0 +1,91 @@
+-- What the closing call works out: each group's word, and whether a group's and a constraint's clauses hold.
+use Prim.Native.Nat.{ℕ, _+_, _-_, _%_, _^_}
+use mathlib.Core.Bool.{Bool, true, cond, Bool·beq, _&&_, _||_}
+use mathlib.Core.List.{List, [], _∷_, _++_, map}
+use lib.Bits.{bitOr}
+use lib.Dec.{ltb}
+use lib.ListN.{getD, replicate}
+use Rattle.model.specs.declared.Literal.{Literal}
+use Rattle.model.specs.declared.Literal.the-variants.{Pos, Neg}
+use Rattle.model.specs.declared.Group.{Group}
+use Rattle.model.specs.declared.Constraint.{Constraint}
+use Rattle.model.specs.declared.Closed.{Closed}
+use Rattle.model.specs.Lists.{every, total, range, between}
+use Rattle.model.specs.Words.{full, less, size, inside, has, wordWhere}
+use Rattle.model.specs.Limits.{limits}
+use Rattle.model.specs.Clauses.{memberClauses}
+use Rattle.model.specs.Model.{groupAt}
+use Rattle.model.specs.Totalizer.{shape, treeClauses}
+use Rattle.model.specs.Cnf.{openOf, openCount, counted, firstVariable, firstOutput}
+use Rattle.model.specs.Solution.{setOf}
+use Rattle.model.specs.Close.{truth, clauseTrue}
+
+-- ---- a group's word
+
+-- bit e: fixed, or open with a true variable, where the group's variables start at v
+abbrev pub inGroup : List Bool → Group → ℕ → ℕ → Bool
+inGroup a g v e = has (g .fixed) e || (has (openOf g) e && truth a (v + size (openOf g % 2 ^ e)))
+
+-- the bits below n
+unfoldable pub wordOf : ℕ → List Bool → Group → ℕ → ℕ
+wordOf n a g v = wordWhere (inGroup a g v) n
+
+-- group g of a table
+unfoldable pub wordAt : ℕ → List Bool → List Group → ℕ → ℕ
+wordAt n a t g = wordOf n a (groupAt t g) (firstVariable t g)
+
+-- groups 1 to s of a table; zero past s
+unfoldable pub tableWords : ℕ → List Bool → List Group → ℕ → List ℕ
+tableWords n a t s = map (wordAt n a t) (range 1 s) ++ replicate (limits .groups - s) 0
+
+-- ---- a group's clauses
+
+-- how many of the m variables from v on are true
+unfoldable pub trueCount : List Bool → ℕ → ℕ → ℕ
+trueCount a v m = total (λ i. cond (truth a i) 1 0) (range v m)
+
+-- the m outputs from o on are true up to x, and false above
+abbrev pub outputIs : List Bool → ℕ → ℕ → ℕ → Bool
+outputIs a o x i = Bool·beq (truth a (o + i)) (ltb i x)
+
+unfoldable pub countsTo : List Bool → ℕ → ℕ → ℕ → Bool
+countsTo a o m x = every (outputIs a o x) (range 0 m)
+
+-- the word w is within the limits, and the totalizer's tree, if there is one, holds
+unfoldable pub groupHolds : List Bool → Group → ℕ → ℕ → ℕ → Bool
+groupHolds a g w v o =
+    between (g .low) (g .high) (size w) && cond (counted g) (every (clauseTrue a) (treeClauses (shape (openCount g)) v o)) true
+
+-- group g of a table, where the words are d
+unfoldable pub groupHoldsAt : List Bool → List Group → List ℕ → ℕ → Bool
+groupHoldsAt a t d g = groupHolds a (groupAt t g) (setOf d g) (firstVariable t g) (firstOutput t g)
+
+-- ---- a constraint's clauses, for all entrants at once
+
+-- the entrants of w for whom a literal of a member holds, where the words are d and the members' groups ids
+abbrev pub literalWord : List ℕ → List ℕ → ℕ → Literal → ℕ
+literalWord d ids w (Pos i) = setOf d (getD ids i 0)
+literalWord d ids w (Neg i) = less w (setOf d (getD ids i 0))
+
+-- those of x, and those for whom one of the literals holds
+abbrev pub clauseWord : List ℕ → List ℕ → ℕ → ℕ → List Literal → ℕ
+clauseWord d ids w x [] = x
+clauseWord d ids w x (l ∷ ls) = clauseWord d ids w (bitOr x (literalWord d ids w l)) ls
+
+-- a clause holds for every entrant of w
+unfoldable pub clauseHolds : List ℕ → List ℕ → ℕ → List Literal → Bool
+clauseHolds d ids w c = inside w (clauseWord d ids w 0 c)
+
+-- so do all of a constraint's
+unfoldable pub constraintHolds : List ℕ → ℕ → Constraint → Bool
+constraintHolds d w c = every (clauseHolds d (c .groups) w) (memberClauses (c .code) (c .count))
+
+-- ---- closing
+
+-- groups 1 to s of the table t, and the constraints cs
+unfoldable pub clausesHold : List Bool → List Group → List Constraint → List ℕ → ℕ → ℕ → Bool
+clausesHold a t cs d n s = every (groupHoldsAt a t d) (range 1 s) && every (constraintHolds d (full n)) cs
+
+-- the number and zeros
+unfoldable pub refusedClosing : ℕ → Closed
+refusedClosing x = record { refusal = x; groups = replicate (limits .groups) 0 }

@@ -1,0 +1,410 @@
+// Closing: whether the values satisfy every clause, and the groups that they say. The last step of the chain.
+// A totalizer's outputs are compared with the count of its leaves, and a constraint's clauses are judged for all entrants at once.
+ghost use mathlib.Core.Path.{_≡_};
+ghost use mathlib.Core.Bool.{cond};
+ghost use mathlib.Core.List.{[]};
+ghost use Prim.Native.Nat.{_+_, _-_, _^_, _≤_, _<_};
+ghost use lib.ListN.{length, getD, take};
+ghost use Rattle.model.specs.Lists.{every, range};
+ghost use Rattle.model.specs.Limits.{limits};
+ghost use Rattle.model.specs.Words.{full};
+ghost use Rattle.model.specs.Clauses.{memberClauses};
+ghost use Rattle.model.specs.Totalizer.{shape, treeClauses, treeOutputCount};
+ghost use Rattle.model.specs.Assignment.{isSaid};
+ghost use Rattle.model.specs.Solution.{setOf};
+ghost use Rattle.model.specs.Close.{truth, clauseTrue, assignmentOf, closed};
+ghost use Rattle.solution.specs.Holds.{inGroup, wordOf, tableWords, trueCount, countsTo, groupHolds, groupHoldsAt, literalWord, clauseWord, clauseHolds, constraintHolds, clausesHold, refusedClosing};
+use model::Closed;
+use model::Constraint;
+use model::Group;
+use model::Literal;
+use model::Model;
+use model::Reading;
+
+// ---- variables
+
+fn wide(x: u32) -> usize
+    ensures { λ r. ⌜ (r ≡ x) × (r < 5000000000) ⌝ }
+{
+    x as usize
+}
+
+// Whether variable v is true; one that is not there is false.
+fn is_true(values: &[u8], v: usize) -> bool
+    ensures { λ r. ⌜ r ≡ truth (assignmentOf (now (values .entry))) v ⌝ }
+{
+    if v == 0 {
+        return false;
+    }
+    if values.len() < v {
+        return false;
+    }
+    values[v - 1] == 1
+}
+
+// One more than n where variable v is true.
+fn add_true(values: &[u8], v: usize, n: usize) -> usize
+    requires { ⌜ n < 1000 ⌝ }
+    ensures { λ r. ⌜ r ≡ n + cond (truth (assignmentOf (now (values .entry))) v) 1 0 ⌝ }
+{
+    if is_true(values, v) {
+        return n + 1;
+    }
+    n
+}
+
+// How many of the m variables from v on are true.
+fn true_count(values: &[u8], v: usize, m: usize) -> usize
+    requires { ⌜ (v < 10000000000) × (m ≤ 64) ⌝ }
+    ensures { λ r. ⌜ r ≡ trueCount (assignmentOf (now (values .entry))) v m ⌝ }
+{
+    let mut n: usize = 0;
+    let mut i: usize = 0;
+    while i < m {
+        n = add_true(values, v + i, n);
+        i += 1;
+    }
+    n
+}
+
+// Whether the m outputs from o on are true up to x and false above.
+fn counts_to(values: &[u8], o: usize, m: usize, x: usize) -> bool
+    requires { ⌜ (o < 10000000000) × (m ≤ 64) ⌝ }
+    ensures { λ r. ⌜ r ≡ countsTo (assignmentOf (now (values .entry))) o m x ⌝ }
+{
+    let mut i: usize = 0;
+    while i < m {
+        if is_true(values, o + i) != (i < x) {
+            return false;
+        }
+        i += 1;
+    }
+    true
+}
+
+// Whether every variable is said.
+fn all_said(values: &[u8]) -> bool
+    ensures { λ r. ⌜ r ≡ every isSaid (now (values .entry)) ⌝ }
+{
+    let mut i: usize = 0;
+    while i < values.len() {
+        if values[i] < 1 {
+            return false;
+        }
+        if 2 < values[i] {
+            return false;
+        }
+        i += 1;
+    }
+    true
+}
+
+// ---- a group's word
+
+// Whether entrant e is in g, whose variables start at v.
+fn in_group(values: &[u8], g: Group, v: usize, e: u32) -> bool
+    requires { ⌜ (v < 10000000000) × (e < 32) ⌝ }
+    ensures { λ r. ⌜ r ≡ inGroup (assignmentOf (now (values .entry))) g v e ⌝ }
+{
+    if (g.fixed >> e) % 2 == 1 {
+        return true;
+    }
+    let open = g.possible ^ (g.possible & g.fixed);
+    if (open >> e) % 2 == 1 {
+        let below = open % (1 << e);
+        return is_true(values, v + u64::count_ones(below) as usize);
+    }
+    false
+}
+
+// w, which has entrants below e only, with entrant e where it is in g.
+fn add_entrant(values: &[u8], g: Group, v: usize, e: u32, w: u64) -> u64
+    requires { ⌜ (v < 10000000000) × (e < 32) ⌝ }
+    requires { ⌜ w < 2 ^ e ⌝ }
+    ensures { λ r. ⌜ r ≡ w + cond (inGroup (assignmentOf (now (values .entry))) g v e) (2 ^ e) 0 ⌝ }
+{
+    if in_group(values, g, v, e) {
+        return w + (1 << e);
+    }
+    w
+}
+
+fn word_of(values: &[u8], g: Group, v: usize, n: u32) -> u64
+    requires { ⌜ (v < 10000000000) × (n ≤ limits .entrants) ⌝ }
+    ensures { λ r. ⌜ r ≡ wordOf n (assignmentOf (now (values .entry))) g v ⌝ }
+{
+    let mut w: u64 = 0;
+    let mut e: u32 = 0;
+    while e < n {
+        w = add_entrant(values, g, v, e, w);
+        e += 1;
+    }
+    w
+}
+
+// The words of groups 1 to s; zero past s.
+fn words(values: &[u8], groups: [Group; Model::GROUPS], n: u32, s: u32) -> [u64; Model::GROUPS]
+    requires { ⌜ (n ≤ limits .entrants) × (s ≤ limits .groups) ⌝ }
+    ensures { λ r. ⌜ (length r ≡ limits .groups) × (r ≡ tableWords n (assignmentOf (now (values .entry))) (take s groups) s) ⌝ }
+{
+    let firsts = numbering::first_variables(groups, s);
+    let end = s as usize;
+    let mut r = [0u64; Model::GROUPS];
+    let mut i: usize = 0;
+    while i < end {
+        let g = groups[i];
+        let v = wide(firsts[i]);
+        r[i] = word_of(values, g, v, n);
+        i += 1;
+    }
+    r
+}
+
+// ---- a group's clauses
+
+// A tree of size m, whose leaves start at v and outputs at o: left half, right half, then the node itself.
+fn tree_holds(values: &[u8], m: u32, v: usize, o: usize) -> bool
+    requires { ⌜ (m ≤ 64) × (v + m < 10000000000) × (o + treeOutputCount m < 10000000000) ⌝ }
+    ensures { λ r. ⌜ r ≡ every (clauseTrue (assignmentOf (now (values .entry)))) (treeClauses (shape m) v o) ⌝ }
+{
+    if m < 2 {
+        return true;
+    }
+    let a = m / 2;
+    let b = m - a;
+    let p = o + numbering::output_count(a) as usize;
+    let own = p + numbering::output_count(b) as usize;
+    if !tree_holds(values, a, v, o) {
+        return false;
+    }
+    if !tree_holds(values, b, v + a as usize, p) {
+        return false;
+    }
+    let x = true_count(values, v, m as usize);
+    counts_to(values, own, m as usize, x)
+}
+
+// Group g, whose word is w, whose variables start at v and outputs at o.
+fn group_holds(values: &[u8], g: Group, w: u64, v: usize, o: usize) -> bool
+    requires { ⌜ (v < 5000000000) × (o < 5000000000) ⌝ }
+    ensures { λ r. ⌜ r ≡ groupHolds (assignmentOf (now (values .entry))) g w v o ⌝ }
+{
+    let count = u64::count_ones(w);
+    if count < g.low {
+        return false;
+    }
+    if g.high < count {
+        return false;
+    }
+    let c = numbering::counter_of(g);
+    if !c.exists {
+        return true;
+    }
+    tree_holds(values, c.free, v, o)
+}
+
+// Groups 1 to s.
+fn groups_hold(
+    values: &[u8],
+    groups: [Group; Model::GROUPS],
+    words: [u64; Model::GROUPS],
+    s: u32,
+) -> bool
+    requires { ⌜ s ≤ limits .groups ⌝ }
+    ensures { λ r. ⌜ r ≡ every (groupHoldsAt (assignmentOf (now (values .entry))) (take s groups) words) (range 1 s) ⌝ }
+{
+    let firsts = numbering::first_variables(groups, s);
+    let outputs = numbering::first_outputs(groups, s);
+    let end = s as usize;
+    let mut i: usize = 0;
+    while i < end {
+        let g = groups[i];
+        let v = wide(firsts[i]);
+        let o = wide(outputs[i]);
+        if !group_holds(values, g, words[i], v, o) {
+            return false;
+        }
+        i += 1;
+    }
+    true
+}
+
+// ---- a constraint
+
+// Group number i of a constraint; 0 where it has none.
+fn member(ids: [u32; Model::MEMBERS], i: u32) -> u32
+    ensures { λ r. ⌜ r ≡ getD ids i 0 ⌝ }
+{
+    let at = i as usize;
+    if at < Model::MEMBERS {
+        return ids[at];
+    }
+    0
+}
+
+// The word of group g; none where there is no such group.
+fn set_of(words: [u64; Model::GROUPS], g: u32) -> u64
+    ensures { λ r. ⌜ r ≡ setOf words g ⌝ }
+{
+    if g < 1 {
+        return words[0];
+    }
+    let at = (g - 1) as usize;
+    if at < Model::GROUPS {
+        return words[at];
+    }
+    0
+}
+
+// The entrants of all for whom a literal holds.
+fn literal_word(
+    words: [u64; Model::GROUPS],
+    ids: [u32; Model::MEMBERS],
+    all: u64,
+    l: Literal,
+) -> u64
+    ensures { λ r. ⌜ r ≡ literalWord words ids all l ⌝ }
+{
+    match l {
+        Literal::Pos(i) => set_of(words, member(ids, i)),
+        Literal::Neg(i) => {
+            let w = set_of(words, member(ids, i));
+            all ^ (all & w)
+        }
+    }
+}
+
+// Those for whom one of the literals of clause j holds.
+fn clause_word(
+    words: [u64; Model::GROUPS],
+    ids: [u32; Model::MEMBERS],
+    all: u64,
+    code: u32,
+    k: u32,
+    j: usize,
+) -> u64
+    ensures { λ r. ⌜ r ≡ clauseWord words ids all 0 (getD (memberClauses code k) j []) ⌝ }
+{
+    let end = constraint::literal_count(code, k, j);
+    let mut w: u64 = 0;
+    let mut i: usize = 0;
+    while i < end {
+        let l = constraint::literal_at(code, k, j, i);
+        w = w | literal_word(words, ids, all, l);
+        i += 1;
+    }
+    w
+}
+
+// Whether each clause of a constraint holds for all.
+fn constraint_holds(
+    words: [u64; Model::GROUPS],
+    ids: [u32; Model::MEMBERS],
+    all: u64,
+    code: u32,
+    k: u32,
+) -> bool
+    ensures { λ r. ⌜ r ≡ every (clauseHolds words ids all) (memberClauses code k) ⌝ }
+{
+    let end = constraint::clause_count(code, k);
+    let mut j: usize = 0;
+    while j < end {
+        if all & clause_word(words, ids, all, code, k, j) != all {
+            return false;
+        }
+        j += 1;
+    }
+    true
+}
+
+// The first c constraints.
+fn constraints_hold(
+    words: [u64; Model::GROUPS],
+    constraints: [Constraint; Model::CONSTRAINTS],
+    c: usize,
+    all: u64,
+) -> bool
+    requires { ⌜ c ≤ limits .constraints ⌝ }
+    ensures { λ r. ⌜ r ≡ every (constraintHolds words all) (take c constraints) ⌝ }
+{
+    let mut j: usize = 0;
+    while j < c {
+        let l = constraints[j];
+        let ids = l.groups;
+        if !constraint_holds(words, ids, all, l.code, l.count) {
+            return false;
+        }
+        j += 1;
+    }
+    true
+}
+
+// ---- closing
+
+// Entrants 1 to n.
+fn entrants(n: u32) -> u64
+    requires { ⌜ n ≤ limits .entrants ⌝ }
+    ensures { λ r. ⌜ r ≡ full n ⌝ }
+{
+    (1 << n) - 1
+}
+
+// Every clause of the listing; the arrays are whole.
+fn clauses_hold(
+    values: &[u8],
+    groups: [Group; Model::GROUPS],
+    constraints: [Constraint; Model::CONSTRAINTS],
+    words: [u64; Model::GROUPS],
+    n: u32,
+    s: u32,
+    c: u32,
+) -> bool
+    requires { ⌜ (n ≤ limits .entrants) × (s ≤ limits .groups) × (c ≤ limits .constraints) ⌝ }
+    ensures { λ r. ⌜ (length groups ≡ limits .groups) × (length constraints ≡ limits .constraints) ⌝ }
+    ensures { λ r. ⌜ r ≡ clausesHold (assignmentOf (now (values .entry))) (take s groups) (take c constraints) words n s ⌝ }
+{
+    if !groups_hold(values, groups, words, s) {
+        return false;
+    }
+    constraints_hold(words, constraints, c as usize, entrants(n))
+}
+
+fn refused(refusal: u32) -> Closed
+    ensures { λ r. ⌜ r ≡ refusedClosing refusal ⌝ }
+{
+    Closed {
+        refusal,
+        groups: [0; Model::GROUPS],
+    }
+}
+
+// The groups that the values say; or refusal 20, 22, 26, 27 or 28, and zeros.
+pub fn close(m: Model, r: Reading, values: &[u8]) -> Closed
+    ensures { λ a. ⌜ a ≡ closed m r (now (values .entry)) ⌝ }
+{
+    if !m.in_range() {
+        return refused(20);
+    }
+    if !propagate::is_fixpoint(m) {
+        return refused(22);
+    }
+    let groups = m.groups;
+    if values.len() != numbering::variable_count(groups, m.s) as usize {
+        return refused(26);
+    }
+    if !r.closed {
+        return refused(27);
+    }
+    if !all_said(values) {
+        return refused(27);
+    }
+    let found = words(values, groups, m.n, m.s);
+    let constraints = m.constraints;
+    if !clauses_hold(values, groups, constraints, found, m.n, m.s, m.c) {
+        return refused(28);
+    }
+    Closed {
+        refusal: 0,
+        groups: found,
+    }
+}
