@@ -15,6 +15,7 @@ use Rattle.model.specs.Lists.{any, each}
 use Rattle.model.specs.Totalizer.{holds, literals, keep}
 use Rattle.model.specs.Text.{decimal, literalText, clauseText}
 use Rattle.model.proofs.Lists.{each-append, any-append}
+use Rattle.numbering.proofs.Arrays.{next-take}
 use Rattle.cnf.specs.Parts.{spaced, termText, keptText}
 
 pub spaced-length : (v : ℕ) → length (spaced v) ≡ length (decimal v) + 1
@@ -33,9 +34,6 @@ neg-length l v e = ap length (neg-text l v e) ∙ omega arith
 
 -- ---- the first terms, one more at a time
 
-pub next-take : {A : Type 0} (ts : List A) (i : ℕ) (d : A) → i < length ts → take (i + 1) ts ≡ take i ts ++ getD ts i d ∷ []
-next-take ts i d h = ap (λ (n : ℕ). take n ts) (add-one i) ∙ take-suc ts i d h
-
 pub terms-next : (ts : List Term) (i : ℕ) (d : Term) → i < length ts
     → each termText (take (i + 1) ts) ≡ each termText (take i ts) ++ termText (getD ts i d)
 terms-next ts i d h =
@@ -51,6 +49,20 @@ terms-room (t ∷ ts) zero (suc k) d h n = rw length-append (omega arith)
 terms-room (t ∷ ts) (suc i) (suc k) d h n =
     rw (length-append (termText t) (each termText (take i ts)), length-append (termText t) (each termText (take k ts)))
     (omega (arith, terms-room ts i k d (omega arith) (omega arith)))
+
+pub last-of-three : (a b c r : Bool) → a ≡ false → b ≡ false → r ≡ c → r ≡ (a || (b || (c || false)))
+last-of-three a b true r p q e = rw (p, q) e
+last-of-three a b false r p q e = rw (p, q) e
+
+pub three-text : (x y z : Term) → each termText (x ∷ y ∷ z ∷ []) ≡ (termText x ++ termText y) ++ termText z
+three-text x y z =
+    ap (λ (l : List ℕ). termText x ++ (termText y ++ l)) (append-nil (termText z)) ∙ sym (append-assoc (termText x) (termText y) (termText z))
+
+pub three-length : (x y z : Term) → length (each termText (x ∷ y ∷ z ∷ [])) ≡ length (termText x) + length (termText y) + length (termText z)
+three-length x y z =
+    ap length (three-text x y z)
+    ∙ length-append (termText x ++ termText y) (termText z)
+    ∙ ap (λ (k : ℕ). k + length (termText z)) (length-append (termText x) (termText y))
 
 -- ---- a clause that is kept, and one that is left out
 

@@ -6,3 +6,6 @@ pub mod Trees
 pub mod Groups
 pub mod MemberTerms
 pub mod Lines
+pub mod Settled
+pub mod Entry
+pub mod Runs

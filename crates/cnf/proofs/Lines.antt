@@ -1,4 +1,4 @@
--- The text of a constraint's block, as its clauses over the members. Assumes nothing.
+-- A constraint's block over its members: its text, and how many clauses it has. Assumes nothing.
 use mathlib.Core.Path.{_≡_, refl, sym, ap, ap₂, _∙_}
 use mathlib.Core.Bool.{Bool, true, false, cond}
 use mathlib.Core.List.{List, [], _∷_, _++_, map}
@@ -19,9 +19,9 @@ use Rattle.model.specs.Totalizer.{oppositeTerm, keep}
 use Rattle.model.specs.Cnf.{variableOf, openOf, membership, termOf, clausesAt, constraintClauses}
 use Rattle.model.specs.Assignment.{variable}
 use Rattle.model.specs.Text.{clauseText}
-use Rattle.model.proofs.Lists.{each-each, each-map, each-range-ext, getD-map-in, places}
+use Rattle.model.proofs.Lists.{each-each, each-map, each-range-ext, getD-map-in, places, length-each, total-ext}
 use Rattle.cnf.specs.declared.Member.{Member}
-use Rattle.cnf.specs.Parts.{keptText, memberOf, memberTerm, literalTerm, clauseOf, memberClauseText, entrantText, constraintText, Within}
+use Rattle.cnf.specs.Parts.{keptText, memberOf, memberTerm, literalTerm, clauseOf, memberClauseText, entrantText, constraintText, keptCount, entrantCount, constraintCount, Within}
 use Rattle.cnf.proofs.MemberTerms.{values-map}
 
 -- a member's term is what the definition says of its group
@@ -57,29 +57,37 @@ map-map f g [] = refl
 map-map {A} {B} {C} f g (x ∷ xs) = ap {B = List C} (λ l. f (g x) ∷ l) (map-map f g xs)
 
 module _ (t : List Group) (c : Constraint) (k : ℕ) (few : k ≤ length (c .groups)) (w : Within k (c .code) (c .count)) where
+  abbrev keptAt : ℕ → ℕ → List (List Literal)
+  keptAt e j = keep (map (literalTerm (known t (c .groups) k e few)) (clauseOf (c .code) (c .count) j))
+
   clause-is : (e j : ℕ) → j < length (memberClauses (c .code) (c .count))
-      → keptText (map (termOf t e) (map (ofGroup (c .groups)) (clauseOf (c .code) (c .count) j)))
-      ≡ memberClauseText (known t (c .groups) k e few) (c .code) (c .count) j
-  unfolding memberClauseText
+      → keep (map (termOf t e) (map (ofGroup (c .groups)) (clauseOf (c .code) (c .count) j))) ≡ keptAt e j
   clause-is e j h =
-      ap keptText
+      ap keep
       (map-map (termOf t e) (ofGroup (c .groups)) (clauseOf (c .code) (c .count) j)
       ∙ values-map (λ l. termOf t e (ofGroup (c .groups) l)) (literalTerm (known t (c .groups) k e few)) (Pos 0) (clauseOf (c .code) (c .count) j)
       (λ i l. literal-is t (c .groups) k e few (getD (clauseOf (c .code) (c .count) j) i (Pos 0)) (w .below j i h l)))
 
-  entrant-is : (e : ℕ) → each clauseText (clausesAt t c e) ≡ entrantText (known t (c .groups) k e few) (c .code) (c .count)
-  unfolding clausesAt clausesOf entrantText keptText clauseOf
+  entrant-is : (e : ℕ) → clausesAt t c e ≡ each (keptAt e) (range 0 (length (memberClauses (c .code) (c .count))))
+  unfolding clausesAt clausesOf clauseOf
   entrant-is e =
-      each-each clauseText (λ ls. keep (map (termOf t e) ls)) (clausesOf c)
-      ∙ each-map (λ ls. keptText (map (termOf t e) ls)) (map (ofGroup (c .groups))) (memberClauses (c .code) (c .count))
-      ∙ each-places (λ ls. keptText (map (termOf t e) (map (ofGroup (c .groups)) ls))) [] (memberClauses (c .code) (c .count))
-      ∙ each-range-ext (λ j. keptText (map (termOf t e) (map (ofGroup (c .groups)) (clauseOf (c .code) (c .count) j))))
-      (memberClauseText (known t (c .groups) k e few) (c .code) (c .count)) 0 (length (memberClauses (c .code) (c .count)))
-      (λ j _ h. clause-is e j (omega arith))
+      each-map (λ ls. keep (map (termOf t e) ls)) (map (ofGroup (c .groups))) (memberClauses (c .code) (c .count))
+      ∙ each-places (λ ls. keep (map (termOf t e) (map (ofGroup (c .groups)) ls))) [] (memberClauses (c .code) (c .count))
+      ∙ each-range-ext (λ j. keep (map (termOf t e) (map (ofGroup (c .groups)) (clauseOf (c .code) (c .count) j)))) (keptAt e) 0
+      (length (memberClauses (c .code) (c .count))) (λ j _ h. clause-is e j (omega arith))
 
   -- the text of the constraint's clauses
   pub constraint-text : (n : ℕ) → each clauseText (constraintClauses n t c) ≡ constraintText (map (memberOf t) (take k (c .groups))) (c .code) (c .count) n
-  unfolding constraintClauses constraintText
+  unfolding constraintClauses constraintText entrantText memberClauseText keptText
   constraint-text n =
       each-each clauseText (clausesAt t c) (range 0 n)
-      ∙ each-range-ext (λ e. each clauseText (clausesAt t c e)) (λ e. entrantText (known t (c .groups) k e few) (c .code) (c .count)) 0 n (λ e _ _. entrant-is e)
+      ∙ each-range-ext (λ e. each clauseText (clausesAt t c e)) (λ e. entrantText (known t (c .groups) k e few) (c .code) (c .count)) 0 n
+      (λ e _ _. ap (each clauseText) (entrant-is e) ∙ each-each clauseText (keptAt e) (range 0 (length (memberClauses (c .code) (c .count)))))
+
+  -- and how many they are
+  pub constraint-length : (n : ℕ) → length (constraintClauses n t c) ≡ constraintCount (map (memberOf t) (take k (c .groups))) (c .code) (c .count) n
+  unfolding constraintClauses constraintCount entrantCount keptCount
+  constraint-length n =
+      length-each (clausesAt t c) (range 0 n)
+      ∙ total-ext (λ e. length (clausesAt t c e)) (λ e. entrantCount (known t (c .groups) k e few) (c .code) (c .count))
+      (λ e. ap length (entrant-is e) ∙ length-each (keptAt e) (range 0 (length (memberClauses (c .code) (c .count))))) (range 0 n)

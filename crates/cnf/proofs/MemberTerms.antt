@@ -23,37 +23,16 @@ use Rattle.model.specs.Lists.{any, every, between, each, range, total}
 use Rattle.model.specs.Clauses.{memberClauses}
 use Rattle.model.specs.Totalizer.{oppositeTerm, holds, keep}
 use Rattle.model.specs.Model.{zeroGroup, groupAt}
-use Rattle.model.specs.Cnf.{openCount, firstVariable}
+use Rattle.model.specs.Cnf.{openCount, firstVariable, firstOutput}
 use Rattle.model.specs.Words.{less, size, bit, has}
 use Rattle.model.specs.Assignment.{variable}
 use Rattle.model.proofs.Words.{size-ones}
 use Rattle.model.proofs.Lists.{every-getD, each-range-ext, range-last, total-append}
 use Rattle.cnf.specs.declared.Member.{Member}
 use Rattle.cnf.specs.Parts.{keptText, memberOf, memberTerm, smallMember, literalTerm, clauseOf, memberClauseText, entrantText, keptCount, entrantCount, Steadies, Within}
-use Rattle.cnf.proofs.Clauses.{next-take}
-use Rattle.cnf.proofs.Groups.{steady-at}
-
--- ---- an array that is filled from the front
-
-module _ {B : Type 0} where
-  take-set-next : (r : List B) (i : ℕ) (x : B) → i < length r → take (i + 1) (set r i x) ≡ take i r ++ x ∷ []
-  take-set-next [] i x h = absurd (omega arith)
-  take-set-next (y ∷ r) zero x h = refl
-  take-set-next (y ∷ r) (suc i) x h =
-      ap (λ (n : ℕ). take n (set (y ∷ r) (suc i) x)) (add-one (suc i))
-      ∙ ap {B = List B} (λ l. y ∷ l) (ap (λ (n : ℕ). take n (set r i x)) (sym (add-one i)) ∙ take-set-next r i x (omega arith))
-
-module _ {A B : Type 0} where
-  map-append : (f : A → B) (xs ys : List A) → map f (xs ++ ys) ≡ map f xs ++ map f ys
-  map-append f [] ys = refl
-  map-append f (x ∷ xs) ys = ap {B = List B} (λ l. f x ∷ l) (map-append f xs ys)
-
-  pub fill-next : (f : A → B) (xs : List A) (r : List B) (i : ℕ) (d : A) (x : B) → i < length xs → i < length r
-      → take i r ≡ map f (take i xs) → x ≡ f (getD xs i d) → take (i + 1) (set r i x) ≡ map f (take (i + 1) xs)
-  fill-next f xs r i d x h k inv e =
-      take-set-next r i x k
-      ∙ ap₂ (λ (l m : List B). l ++ m) inv (ap {B = List B} (λ y. y ∷ []) e)
-      ∙ sym (ap (map f) (next-take xs i d h) ∙ map-append f (take i xs) (getD xs i d ∷ []))
+use Rattle.numbering.specs.Counter.{numbers, firstVariables, firstOutputs}
+use Rattle.model.specs.Limits.{limits}
+use Rattle.model.proofs.Lists.{getD-map-in, range-getD, range-length}
 
 -- ---- a member's term
 
@@ -92,24 +71,26 @@ pub clause-text : (ts cs : List Term) (code count j k : ℕ) → k ≡ length (c
 unfolding memberClauseText
 clause-text ts cs code count j k e h = ap keptText (ap (λ (n : ℕ). take n cs) e ∙ h)
 
--- ---- steady groups, fewer of them
+-- ---- a member from its group and the group's first variable
 
-pub fewer : (t : List Group) (s k : ℕ) → Steadies (take s t) → k ≤ s → s ≤ length t → Steadies (take k t)
-fewer t s k h l n = record { at = λ i q. let q′ = q in rw (sym (getD-take k t i zeroGroup (omega (arith, length-take k t)))) at (steady-at t s i h (omega (arith, length-take k t)) n) }
+pub first-at : (t : List Group) (first : List ℕ) (g : ℕ) → first ≡ firstVariables t → 1 ≤ g → g ≤ limits .groups → getD first (g - 1) 0 ≡ firstVariable t g
+unfolding firstVariables numbers
+first-at t first g e h k =
+    rw e
+    (getD-map-in (firstVariable t) (range 1 (limits .groups)) (g - 1) 0 0 (omega (arith, range-length 1 (limits .groups)))
+    ∙ ap (firstVariable t) (range-getD 1 (limits .groups) (g - 1) 0 (omega arith) ∙ omega arith))
 
-pub take-less : {A : Type 0} (t : List A) (k s : ℕ) → k ≤ s → take k (take s t) ≡ take k t
-take-less t zero s h = refl
-take-less [] (suc k) zero h = refl
-take-less [] (suc k) (suc s) h = refl
-take-less (x ∷ t) (suc k) zero h = absurd (omega arith)
-take-less {A} (x ∷ t) (suc k) (suc s) h = ap {B = List A} (λ l. x ∷ l) (take-less t k s (omega arith))
+pub output-from : (t : List Group) (outputs : List ℕ) (g : ℕ) → outputs ≡ firstOutputs t → 1 ≤ g → g ≤ limits .groups → getD outputs (g - 1) 0 ≡ firstOutput t g
+unfolding firstOutputs numbers
+output-from t outputs g e h k =
+    rw e
+    (getD-map-in (firstOutput t) (range 1 (limits .groups)) (g - 1) 0 0 (omega (arith, range-length 1 (limits .groups)))
+    ∙ ap (firstOutput t) (range-getD 1 (limits .groups) (g - 1) 0 (omega arith) ∙ omega arith))
 
--- group g of the first s
-pub member-is : (t : List Group) (s g free : ℕ) → 1 ≤ g → g ≤ s → free ≡ total openCount (take (g - 1) t)
-    → record { fixed = getD t (g - 1) zeroGroup .fixed; possible = getD t (g - 1) zeroGroup .possible; first = 1 + free } ≡ memberOf (take s t) g
-unfolding memberOf groupAt firstVariable
-member-is t s g free h k e =
-    rw (getD-take s t (g - 1) zeroGroup (omega arith), take-less t (g - 1) s (omega arith), e)
+pub member-is : (t : List Group) (s g : ℕ) (first : List ℕ) → first ≡ firstVariables (take s t) → 1 ≤ g → g ≤ s → s ≤ limits .groups
+    → record { fixed = getD t (g - 1) zeroGroup .fixed; possible = getD t (g - 1) zeroGroup .possible; first = getD first (g - 1) 0 } ≡ memberOf (take s t) g
+unfolding memberOf groupAt
+member-is t s g first e h k n = rw (getD-take s t (g - 1) zeroGroup (omega arith), first-at (take s t) first g e h (omega arith))
 
 -- ---- the terms past the first k matter to no clause
 

@@ -1,13 +1,17 @@
 -- Laws of decimal texts, digit by digit. Assumes nothing.
 use mathlib.Core.Path.{_≡_, refl, ap, sym, _∙_}
-use mathlib.Core.List.{List, [], _∷_, _++_}
+use mathlib.Core.List.{List, [], _∷_, _++_, append-assoc}
 use Prim.Native.Nat.{ℕ, zero, suc, _+_, _/_, _%_, _≤_, _<_}
 use native.Mathlib.Omega.{arith}
 use native.Mathlib.Decide.{decLt}
 use borrow.Author.Tests.{lt-ltb, le-ltb}
 use lib.Dec.{ltb}
 use lib.ListN.{length, length-append}
-use Rattle.model.specs.Text.{digits, decimal}
+use Rattle.model.specs.declared.Model.{Model}
+use Rattle.model.specs.Model.{tableOf}
+use Rattle.model.specs.Cnf.{variableCount, clauseCount}
+use Rattle.model.specs.Text.{digits, decimal, headerText}
+use Rattle.cnf.specs.Parts.{spaced, countsText}
 use Rattle.encoding_laws.proofs.Decimal.{decimal-some}
 
 digits-small : (f v : ℕ) → v < 10 → digits (suc f) v ≡ (48 + v) ∷ []
@@ -36,3 +40,23 @@ decimal-more v h = digits-more v v h ∙ ap (λ (l : List ℕ). l ++ (48 + v % 1
 
 pub decimal-length : (v : ℕ) → 10 ≤ v → length (decimal v) ≡ length (decimal (v / 10)) + 1
 decimal-length v h = rw (decimal-more v h) (rw length-append)
+
+-- ---- the header's line
+
+abbrev title : List ℕ
+title = 112 ∷ 32 ∷ 99 ∷ 110 ∷ 102 ∷ 32 ∷ []
+
+pub counts-text : (v c : ℕ) → countsText v c ≡ ((title ++ spaced v) ++ decimal c) ++ 10 ∷ []
+unfolding countsText
+counts-text v c = refl
+
+pub counts-length : (v c : ℕ) → length (countsText v c) ≡ 6 + length (spaced v) + length (decimal c) + 1
+counts-length v c =
+    ap length (counts-text v c)
+    ∙ simp length-append (omega arith)
+
+pub header-is : (m : Model) (v c : ℕ) → v ≡ variableCount (tableOf m) → c ≡ clauseCount m → countsText v c ≡ headerText m
+unfolding countsText headerText
+header-is m v c p q =
+    rw (p, q)
+    (ap (λ (l : List ℕ). (l ++ decimal (clauseCount m)) ++ 10 ∷ []) (sym (append-assoc title (decimal (variableCount (tableOf m))) (32 ∷ []))))

@@ -24,15 +24,6 @@ use Rattle.cnf.specs.Parts.{keptText, outputText, pairText, rowText, nod
 table-is : (f : ℕ → ℕ) (table : List ℕ) (m n : ℕ) → T (every (λ k. eqb (getD table k 0) (f k)) (range 0 n)) → m < n → getD table m 0 ≡ f m
 table-is f table m n t h = eqb→eq (getD table m 0) (f m) (every-range (λ k. eqb (getD table k 0) (f k)) 0 n t m (omega arith) (omega arith))
 
-abbrev outputTable : List ℕ
-outputTable =
-    0 ∷ 0 ∷ 2 ∷ 5 ∷ 8 ∷ 12 ∷ 16 ∷ 20 ∷ 24 ∷ 29 ∷ 34 ∷ 39 ∷ 44 ∷ 49 ∷ 54 ∷ 59 ∷ 64 ∷ 70 ∷ 76 ∷ 82 ∷ 88 ∷ 94 ∷ 100 ∷ 106 ∷ 112 ∷ 118 ∷ 124 ∷ 130
-    ∷ 136 ∷ 142 ∷ 148 ∷ 154 ∷ 160 ∷ []
-
-pub output-table : (m : ℕ) → m ≤ 32 → getD outputTable m 0 ≡ treeOutputCount m
-unfolding treeOutputCount outputCountIn
-output-table m h = table-is treeOutputCount outputTable m 33 tt (omega arith)
-
 abbrev clauseTable : List ℕ
 clauseTable =
     0 ∷ 0 ∷ 6 ∷ 16 ∷ 28 ∷ 44 ∷ 62 ∷ 82 ∷ 104 ∷ 130 ∷ 158 ∷ 188 ∷ 220 ∷ 254 ∷ 290 ∷ 328 ∷ 368 ∷ 412 ∷ 458 ∷ 506 ∷ 556 ∷ 608 ∷ 662 ∷ 718 ∷ 776

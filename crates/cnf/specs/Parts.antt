@@ -1,26 +1,28 @@
 -- The parts that the block writer's functions write, as texts of the definitions' clauses. Assumes nothing.
 use Prim.Native.Nat.{ℕ, suc, _+_, _%_, _^_, _≤_, _<_}
 use mathlib.Core.Path.{_≡_}
-use mathlib.Core.Bool.{Bool, true, false, cond}
+use mathlib.Core.Bool.{Bool, true, false, cond, not}
 use mathlib.Core.List.{List, [], _∷_, _++_, map}
 use Rattle.model.specs.declared.Literal.{Literal}
 use Rattle.model.specs.declared.Literal.the-variants.{Pos, Neg}
 use Rattle.model.specs.declared.Term.{Term}
 use Rattle.model.specs.declared.Term.the-variants.{Holds, Fails, Open}
-use lib.Dec.{ltb}
+use lib.Dec.{T, ltb}
 use lib.ListN.{length, getD}
 use Rattle.model.specs.declared.Group.{Group}
-use Rattle.model.specs.Lists.{each, range, total}
+use Rattle.model.specs.Lists.{each, range, total, stop}
 use Rattle.model.specs.Words.{less, size, has}
 use Rattle.model.specs.Limits.{limits}
 use Rattle.model.specs.Clauses.{memberClauses}
 use Rattle.model.specs.Assignment.{variable}
-use Rattle.model.specs.Model.{zeroGroup, groupAt}
+use Rattle.model.specs.declared.Model.{Model}
+use Rattle.model.specs.Model.{zeroGroup, groupAt, inRange}
+use Rattle.model.specs.Propagate.{isFixpoint}
+use Rattle.encoding_laws.proofs.Sized.{Sized}
 use Rattle.model.specs.Cnf.{openCount, atLeast, atMost, counted, firstVariable}
 use Rattle.model.specs.Totalizer.{Output, oppositeTerm, keep, up, down, putIn, nodeClauses, shape, treeClauses, unit, totalizerClauses}
 use Rattle.model.specs.Text.{decimal, literalText, clauseText}
 use Rattle.cnf.specs.declared.Node.{Node}
-use Rattle.cnf.specs.declared.Counter.{Counter}
 use Rattle.cnf.specs.declared.Member.{Member}
 
 -- a number and a space
@@ -64,10 +66,6 @@ unitText s first i = clauseText (unit (signed s) first i)
 -- the text of a group's totalizer, its variables from v on and the outputs from o on
 unfoldable pub groupText : Group → ℕ → ℕ → List ℕ
 groupText g v o = each clauseText (cond (counted g) (totalizerClauses (openCount g) v o (atLeast g) (atMost g)) [])
-
--- m, L and U
-unfoldable pub counterOf : Group → Counter
-counterOf g = record { free = openCount g; low = atLeast g; high = atMost g; exists = counted g }
 
 -- ---- a constraint
 
@@ -136,3 +134,19 @@ pub record Small (t : Node) : Type 0 where
   pub lefts : t .c + t .left < 100000
   pub rights : t .d + t .right < 100000
   pub owns : t .own + (t .left + t .right) < 100000
+
+-- ---- a model that may be listed
+
+-- `p cnf V C` and byte 10
+unfoldable pub countsText : ℕ → ℕ → List ℕ
+countsText v c = ((112 ∷ 32 ∷ 99 ∷ 110 ∷ 102 ∷ 32 ∷ []) ++ spaced v) ++ decimal c ++ (10 ∷ [])
+
+-- the refusals that do not depend on the buffer
+unfoldable pub judgement : Model → ℕ → ℕ
+judgement m b = stop (not (inRange m)) 20 (stop (not (isFixpoint m)) 22 (stop (ltb (m .s + m .c) b) 23 0))
+
+-- in range, at its fixpoint, and with lists as long as its arrays
+pub record Settled (m : Model) : Type 0 where
+  pub range-is : T (inRange m)
+  pub fixpoint : T (isFixpoint m)
+  pub sized : Sized m

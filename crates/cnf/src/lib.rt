@@ -9,15 +9,20 @@ ghost use Rattle.model.specs.Lists.{any, each, every, between, range, total};
 ghost use Rattle.model.specs.Limits.{limits};
 ghost use Rattle.model.specs.Clauses.{memberClauses};
 ghost use Rattle.model.specs.Totalizer.{oppositeTerm, holds, output, shape, rootOutput, up, down, totalizerClauses, treeOutputCount, treeClauseCount};
-ghost use Rattle.model.specs.Cnf.{openCount, outputsOf, groupClauseCount};
+ghost use Rattle.model.specs.Cnf.{openCount, outputsOf, groupClauseCount, constraintClauses, firstVariable};
 ghost use Rattle.model.specs.Assignment.{variable};
-ghost use Rattle.model.specs.Text.{decimal, literalText, clauseText};
+ghost use Rattle.model.specs.Model.{tableOf, constraintInRange};
+ghost use Rattle.model.specs.Text.{decimal, literalText, clauseText, headerText, blockText, writtenBlock, blockBuffer};
+ghost use Rattle.numbering.specs.Counter.{firstVariables, firstOutputs};
 ghost use Rattle.cnf.specs.Wrote.{Wrote};
-ghost use Rattle.cnf.specs.Parts.{spaced, termText, keptText, outputText, pairText, rowText, nodeText, treeText, signed, unitText, groupText, counterOf, memberOf, memberTerm, smallMember, literalTerm, clauseOf, memberClauseText, entrantText, constraintText, keptCount, entrantCount, constraintCount, Small, Steady, Steadies, Fitting, Within};
+ghost use Rattle.cnf.specs.Run.{runOf, runBuffer};
+ghost use Rattle.cnf.specs.Parts.{spaced, termText, keptText, outputText, pairText, rowText, nodeText, treeText, signed, unitText, groupText, memberOf, memberTerm, smallMember, literalTerm, clauseOf, memberClauseText, entrantText, constraintText, keptCount, entrantCount, constraintCount, countsText, judgement, Small, Steady, Steadies, Fitting, Within, Settled};
+use model::Constraint;
 use model::Group;
 use model::Literal;
 use model::Model;
 use model::Term;
+use model::Written;
 
 // ---- a clause
 
@@ -157,16 +162,42 @@ fn opposite(t: Term) -> Term
     }
 }
 
-// The clause of three terms, in the part of buf from at on.
+// Whether one of three terms is true.
+fn one_true(x: Term, y: Term, z: Term) -> bool
+    ensures { λ r. ⌜ r ≡ any holds (x ∷ y ∷ z ∷ []) ⌝ }
+{
+    if is_true(x) {
+        return true;
+    }
+    if is_true(y) {
+        return true;
+    }
+    is_true(z)
+}
+
+// The clause of three terms at the start of buf: nothing where one of them is true.
+fn put_short(buf: &mut [u8], x: Term, y: Term, z: Term) -> usize
+    requires { ⌜ length (keptText (x ∷ y ∷ z ∷ [])) ≤ length (now buf) ⌝ }
+    ensures { λ r. ⌜ Wrote (keptText (x ∷ y ∷ z ∷ [])) 0 (now (buf .entry)) (now (buf .exit)) r ⌝ }
+{
+    if one_true(x, y, z) {
+        return 0;
+    }
+    let a = put_term(buf, 0, x);
+    let b = put_term(buf, a, y);
+    let c = put_term(buf, b, z);
+    buf[c] = 48;
+    let d = c + 1;
+    buf[d] = 10;
+    d + 1
+}
+
+// The same in the part of buf from at on.
 fn put_three(buf: &mut [u8], at: usize, x: Term, y: Term, z: Term) -> usize
     requires { ⌜ at + length (keptText (x ∷ y ∷ z ∷ [])) ≤ length (now buf) ⌝ }
     ensures { λ r. ⌜ Wrote (keptText (x ∷ y ∷ z ∷ [])) at (now (buf .entry)) (now (buf .exit)) r ⌝ }
 {
-    let mut ts = [Term::Fails; Model::MEMBERS];
-    ts[0] = x;
-    ts[1] = y;
-    ts[2] = z;
-    let n = put_clause(&mut buf[at..], ts, 3);
+    let n = put_short(&mut buf[at..], x, y, z);
     at + n
 }
 
@@ -246,43 +277,6 @@ fn put_node(buf: &mut [u8], at: usize, t: Node) -> usize
     n
 }
 
-// "outputs A(1) = 0, A(m) = m + A(left) + A(right)", for sizes up to 32.
-const OUTPUTS: [u32; 33] = [
-    0,
-    0,
-    2,
-    5,
-    8,
-    12,
-    16,
-    20,
-    24,
-    29,
-    34,
-    39,
-    44,
-    49,
-    54,
-    59,
-    64,
-    70,
-    76,
-    82,
-    88,
-    94,
-    100,
-    106,
-    112,
-    118,
-    124,
-    130,
-    136,
-    142,
-    148,
-    154,
-    160,
-];
-
 // "Tree clauses T(1) = 0, T(m) = T(left) + T(right) + 2(a+1)(b+1) - 2".
 const CLAUSES: [u32; 33] = [
     0,
@@ -320,11 +314,12 @@ const CLAUSES: [u32; 33] = [
     1312,
 ];
 
+// The outputs of a tree of size m.
 fn output_count(m: u32) -> u32
     requires { ⌜ m ≤ 32 ⌝ }
     ensures { λ r. ⌜ r ≡ treeOutputCount m ⌝ }
 {
-    OUTPUTS[m as usize]
+    numbering::output_count(m)
 }
 
 fn clause_count(m: u32) -> u32
@@ -416,38 +411,6 @@ fn put_totalizer(buf: &mut [u8], at: usize, m: u32, v: u32, o: u32, low: u32, hi
 
 // ---- a group
 
-// How many entrants are open.
-fn open_count(g: Group) -> u32
-    ensures { λ r. ⌜ r ≡ openCount g ⌝ }
-{
-    u64::count_ones(g.possible ^ (g.possible & g.fixed))
-}
-
-// m, L and U of a group, and whether it has a totalizer.
-struct Counter {
-    free: u32,
-    low: u32,
-    high: u32,
-    exists: bool,
-}
-
-fn counter_of(g: Group) -> Counter
-    requires { ⌜ Steady g ⌝ }
-    ensures { λ r. ⌜ r ≡ counterOf g ⌝ }
-{
-    let free = open_count(g);
-    let fixed = u64::count_ones(g.fixed);
-    let low = g.low - fixed;
-    let high = g.high - fixed;
-    let exists = 0 < low || high < free;
-    Counter {
-        free,
-        low,
-        high,
-        exists,
-    }
-}
-
 // The clauses of a group's totalizer, if it has one; its variables start at v and the outputs at o.
 fn put_group(buf: &mut [u8], at: usize, g: Group, v: u32, o: u32) -> usize
     requires { ⌜ Steady g ⌝ }
@@ -455,60 +418,39 @@ fn put_group(buf: &mut [u8], at: usize, g: Group, v: u32, o: u32) -> usize
     requires { ⌜ at + length (groupText g v o) ≤ length (now buf) ⌝ }
     ensures { λ r. ⌜ Wrote (groupText g v o) at (now (buf .entry)) (now (buf .exit)) r ⌝ }
 {
-    let c = counter_of(g);
+    let c = numbering::counter_of(g);
     if !c.exists {
         return at;
     }
     put_totalizer(buf, at, c.free, v, o, c.low, c.high)
 }
 
-// What the groups before a place have in all: open entrants, outputs and clauses.
-struct Sums {
-    free: u32,
-    outputs: u32,
-    clauses: u32,
-}
-
-fn add_group(t: Sums, g: Group) -> Sums
+// How many clauses these are.
+fn group_count(g: Group) -> u32
     requires { ⌜ Steady g ⌝ }
-    requires { ⌜ (t .free < 1000000) × (t .outputs < 1000000) × (t .clauses < 1000000) ⌝ }
-    ensures { λ r. ⌜ (r .free ≡ t .free + openCount g) × (r .outputs ≡ t .outputs + outputsOf g) × (r .clauses ≡ t .clauses + groupClauseCount g) ⌝ }
+    ensures { λ r. ⌜ (r ≡ groupClauseCount g) × (r ≤ 1344) ⌝ }
 {
-    let c = counter_of(g);
+    let c = numbering::counter_of(g);
     if !c.exists {
-        return Sums {
-            free: t.free + c.free,
-            outputs: t.outputs,
-            clauses: t.clauses,
-        };
+        return 0;
     }
-    Sums {
-        free: t.free + c.free,
-        outputs: t.outputs + output_count(c.free),
-        clauses: t.clauses + (clause_count(c.free) + c.low + (c.free - c.high)),
-    }
+    clause_count(c.free) + c.low + (c.free - c.high)
 }
 
-// The first k groups.
-fn sum_groups(groups: [Group; Model::GROUPS], k: usize) -> Sums
-    requires { ⌜ k ≤ limits .groups ⌝ }
-    requires { ⌜ Steadies (take k groups) ⌝ }
-    ensures { λ r. ⌜ (r .free ≡ total openCount (take k groups)) × (r .outputs ≡ total outputsOf (take k groups)) × (r .clauses ≡ total groupClauseCount (take k groups)) ⌝ }
-    ensures { λ r. ⌜ (r .free ≤ 8192) × (r .outputs ≤ 40960) × (r .clauses ≤ 344064) ⌝ }
+// Of the first s groups.
+fn sum_groups(groups: [Group; Model::GROUPS], s: usize) -> u32
+    requires { ⌜ s ≤ limits .groups ⌝ }
+    requires { ⌜ Steadies (take s groups) ⌝ }
+    ensures { λ r. ⌜ (r ≡ total groupClauseCount (take s groups)) × (r ≤ 344064) ⌝ }
 {
-    let mut t = Sums {
-        free: 0,
-        outputs: 0,
-        clauses: 0,
-    };
+    let mut r = 0;
     let mut i: usize = 0;
-    while i < k {
+    while i < s {
         let g = groups[i];
-        let u = add_group(t, g);
-        t = u;
+        r += group_count(g);
         i += 1;
     }
-    t
+    r
 }
 
 // ---- a constraint
@@ -520,33 +462,19 @@ struct Member {
     first: u32,
 }
 
-// Group g of the first s.
-fn member_of(groups: [Group; Model::GROUPS], s: usize, g: usize) -> Member
-    requires { ⌜ (s ≤ limits .groups) × (1 ≤ g) × (g ≤ s) ⌝ }
-    requires { ⌜ Steadies (take s groups) ⌝ }
-    ensures { λ r. ⌜ r ≡ memberOf (take s groups) g ⌝ }
-{
-    let i = g - 1;
-    let t = sum_groups(groups, i);
-    let x = groups[i];
-    Member {
-        fixed: x.fixed,
-        possible: x.possible,
-        first: 1 + t.free,
-    }
-}
-
-// The first k groups of a constraint.
+// The first k groups of a constraint, of the first s; first has each group's first variable.
 fn members(
     groups: [Group; Model::GROUPS],
     s: usize,
+    first: [u32; Model::GROUPS],
     ids: [u32; Model::MEMBERS],
     k: usize,
 ) -> [Member; Model::MEMBERS]
     requires { ⌜ (s ≤ limits .groups) × (k ≤ limits .members) ⌝ }
-    requires { ⌜ Steadies (take s groups) ⌝ }
+    requires { ⌜ first ≡ firstVariables (take s groups) ⌝ }
     requires { ⌜ T (every (between 1 s) (take k ids)) ⌝ }
     ensures { λ r. ⌜ (length r ≡ limits .members) × (take k r ≡ map (memberOf (take s groups)) (take k ids)) ⌝ }
+    ensures { λ r. ⌜ length ids ≡ limits .members ⌝ }
 {
     let none = Member {
         fixed: 0,
@@ -556,7 +484,13 @@ fn members(
     let mut r = [none; Model::MEMBERS];
     let mut i: usize = 0;
     while i < k {
-        r[i] = member_of(groups, s, ids[i] as usize);
+        let g = ids[i] as usize - 1;
+        let x = groups[g];
+        r[i] = Member {
+            fixed: x.fixed,
+            possible: x.possible,
+            first: first[g],
+        };
         i += 1;
     }
     r
@@ -740,4 +674,265 @@ fn constraint_count(ms: [Member; Model::MEMBERS], k: usize, code: u32, count: u3
         e += 1;
     }
     r
+}
+
+// ---- the lines of a sheet
+
+// The clauses of constraint c among the first s groups.
+fn put_line(
+    buf: &mut [u8],
+    at: usize,
+    groups: [Group; Model::GROUPS],
+    s: usize,
+    first: [u32; Model::GROUPS],
+    c: Constraint,
+    n: u32,
+) -> usize
+    requires { ⌜ (s ≤ limits .groups) × (n ≤ 32) ⌝ }
+    requires { ⌜ Steadies (take s groups) × (first ≡ firstVariables (take s groups)) ⌝ }
+    requires { ⌜ T (constraintInRange s c) ⌝ }
+    requires { ⌜ at + length (each clauseText (constraintClauses n (take s groups) c)) ≤ length (now buf) ⌝ }
+    ensures { λ r. ⌜ Wrote (each clauseText (constraintClauses n (take s groups) c)) at (now (buf .entry)) (now (buf .exit)) r ⌝ }
+{
+    let k = model::member_count(c.code, c.count);
+    let ids = c.groups;
+    let ms = members(groups, s, first, ids, k);
+    put_constraint(buf, at, ms, k, c.code, c.count, n)
+}
+
+// How many they are.
+fn line_count(
+    groups: [Group; Model::GROUPS],
+    s: usize,
+    first: [u32; Model::GROUPS],
+    c: Constraint,
+    n: u32,
+) -> u32
+    requires { ⌜ (s ≤ limits .groups) × (n ≤ 32) ⌝ }
+    requires { ⌜ Steadies (take s groups) × (first ≡ firstVariables (take s groups)) ⌝ }
+    requires { ⌜ T (constraintInRange s c) ⌝ }
+    ensures { λ r. ⌜ (r ≡ length (constraintClauses n (take s groups) c)) × (r ≤ 3200) ⌝ }
+{
+    let k = model::member_count(c.code, c.count);
+    let ids = c.groups;
+    let ms = members(groups, s, first, ids, k);
+    constraint_count(ms, k, c.code, c.count, n)
+}
+
+// Of the first c constraints.
+fn sum_lines(
+    groups: [Group; Model::GROUPS],
+    s: usize,
+    first: [u32; Model::GROUPS],
+    constraints: [Constraint; Model::CONSTRAINTS],
+    c: usize,
+    n: u32,
+) -> u32
+    requires { ⌜ (s ≤ limits .groups) × (n ≤ 32) × (c ≤ limits .constraints) ⌝ }
+    requires { ⌜ Steadies (take s groups) × (first ≡ firstVariables (take s groups)) ⌝ }
+    requires { ⌜ T (every (constraintInRange s) (take c constraints)) ⌝ }
+    ensures { λ r. ⌜ (r ≡ total (λ x. length (constraintClauses n (take s groups) x)) (take c constraints)) × (r ≤ 819200) ⌝ }
+{
+    let mut r = 0;
+    let mut j: usize = 0;
+    while j < c {
+        let x = constraints[j];
+        r += line_count(groups, s, first, x, n);
+        j += 1;
+    }
+    r
+}
+
+// ---- blocks
+
+// `p cnf ` with the space after it.
+fn put_title(buf: &mut [u8], at: usize) -> usize
+    requires { ⌜ at + 6 ≤ length (now buf) ⌝ }
+    ensures { λ r. ⌜ Wrote (112 ∷ 32 ∷ 99 ∷ 110 ∷ 102 ∷ 32 ∷ []) at (now (buf .entry)) (now (buf .exit)) r ⌝ }
+{
+    buf[at] = 112;
+    let b = at + 1;
+    buf[b] = 32;
+    let c = b + 1;
+    buf[c] = 99;
+    let d = c + 1;
+    buf[d] = 110;
+    let e = d + 1;
+    buf[e] = 102;
+    let f = e + 1;
+    buf[f] = 32;
+    f + 1
+}
+
+// `p cnf V C` and byte 10.
+fn put_counts(buf: &mut [u8], at: usize, v: u32, c: u32) -> usize
+    requires { ⌜ at + length (countsText v c) ≤ length (now buf) ⌝ }
+    ensures { λ r. ⌜ Wrote (countsText v c) at (now (buf .entry)) (now (buf .exit)) r ⌝ }
+{
+    let x = put_title(buf, at);
+    let y = put_spaced(buf, x, v);
+    let z = put_number(buf, y, c);
+    buf[z] = 10;
+    z + 1
+}
+
+// Block 0.
+fn put_header(buf: &mut [u8], at: usize, m: Model, first: [u32; Model::GROUPS]) -> usize
+    requires { ⌜ Settled m × (first ≡ firstVariables (tableOf m)) ⌝ }
+    requires { ⌜ at + length (headerText m) ≤ length (now buf) ⌝ }
+    ensures { λ r. ⌜ Wrote (headerText m) at (now (buf .entry)) (now (buf .exit)) r ⌝ }
+{
+    let s = m.s as usize;
+    let groups = m.groups;
+    let constraints = m.constraints;
+    let v = numbering::variable_count(groups, m.s);
+    let a = sum_groups(groups, s);
+    let b = sum_lines(groups, s, first, constraints, m.c as usize, m.n);
+    put_counts(buf, at, v, a + b)
+}
+
+// Block b of a settled model.
+fn put_block(
+    buf: &mut [u8],
+    at: usize,
+    m: Model,
+    first: [u32; Model::GROUPS],
+    outputs: [u32; Model::GROUPS],
+    b: u32,
+) -> usize
+    requires { ⌜ Settled m × (first ≡ firstVariables (tableOf m)) × (outputs ≡ firstOutputs (tableOf m)) ⌝ }
+    requires { ⌜ b ≤ m .s + m .c ⌝ }
+    requires { ⌜ at + length (blockText m b) ≤ length (now buf) ⌝ }
+    ensures { λ r. ⌜ Wrote (blockText m b) at (now (buf .entry)) (now (buf .exit)) r ⌝ }
+{
+    if b == 0 {
+        return put_header(buf, at, m, first);
+    }
+    let i = b as usize - 1;
+    let s = m.s as usize;
+    if b <= m.s {
+        let g = m.groups[i];
+        return put_group(buf, at, g, first[i], outputs[i]);
+    }
+    let groups = m.groups;
+    let c = m.constraints[i - s];
+    put_line(buf, at, groups, s, first, c, m.n)
+}
+
+// ---- the entry
+
+// Refusals 20, 22 and 23, or 0.
+fn judged(m: Model, b: u32) -> u32
+    ensures { λ r. ⌜ r ≡ judgement m b ⌝ }
+{
+    if !m.in_range() {
+        return 20;
+    }
+    if !propagate::is_fixpoint(m) {
+        return 22;
+    }
+    if m.s + m.c < b {
+        return 23;
+    }
+    0
+}
+
+// The arrays of a model are whole.
+fn whole(groups: [Group; Model::GROUPS], constraints: [Constraint; Model::CONSTRAINTS])
+    ensures { λ r. ⌜ (length groups ≡ limits .groups) × (length constraints ≡ limits .constraints) ⌝ }
+{}
+
+// Block b of a settled model. A buffer that holds every block is written at once, a shorter one measured first.
+fn write_settled(m: Model, b: u32, buf: &mut [u8]) -> Written
+    requires { ⌜ Settled m × (b ≤ m .s + m .c) ⌝ }
+    ensures { λ r. ⌜ r ≡ writtenBlock m b (length (now (buf .entry))) ⌝ }
+    ensures { λ r. ⌜ now (buf .exit) ≡ blockBuffer m b (now (buf .entry)) ⌝ }
+{
+    let groups = m.groups;
+    let first = numbering::first_variables(groups, m.s);
+    let outputs = numbering::first_outputs(groups, m.s);
+    if buf.len() < Model::BLOCK_BYTES {
+        let mut scratch = [0u8; Model::BLOCK_BYTES];
+        let k = put_block(&mut scratch, 0, m, first, outputs, b);
+        if buf.len() < k {
+            return Written::Refused(24);
+        }
+        let n = put_block(buf, 0, m, first, outputs, b);
+        return Written::Bytes(n);
+    }
+    let n = put_block(buf, 0, m, first, outputs, b);
+    Written::Bytes(n)
+}
+
+// Block b in buf, from its start: refusals 20, 22, 23 and 24 in this order. 29 cannot occur after 22.
+pub fn write_block(m: Model, b: u32, buf: &mut [u8]) -> Written
+    ensures { λ r. ⌜ r ≡ writtenBlock m b (length (now (buf .entry))) ⌝ }
+    ensures { λ r. ⌜ now (buf .exit) ≡ blockBuffer m b (now (buf .entry)) ⌝ }
+{
+    let refusal = judged(m, b);
+    if refusal != 0 {
+        return Written::Refused(refusal);
+    }
+    let groups = m.groups;
+    let constraints = m.constraints;
+    whole(groups, constraints);
+    write_settled(m, b, buf)
+}
+
+// ---- many blocks at once
+
+// A run of blocks: 0, the first block that is not written and the length of the text; or a refusal, the block asked for and 0.
+pub struct Run {
+    pub refusal: u32,
+    pub next: u32,
+    pub length: usize,
+}
+
+// The blocks of a settled model from b on, each while the buffer has room for any block.
+fn write_run(m: Model, b: u32, buf: &mut [u8]) -> Run
+    requires { ⌜ Settled m × (b ≤ m .s + m .c) × (judgement m b ≡ 0) ⌝ }
+    ensures { λ r. ⌜ r ≡ runOf m b (length (now (buf .entry))) ⌝ }
+    ensures { λ r. ⌜ now (buf .exit) ≡ runBuffer m b (now (buf .entry)) ⌝ }
+{
+    let groups = m.groups;
+    let first = numbering::first_variables(groups, m.s);
+    let outputs = numbering::first_outputs(groups, m.s);
+    let last = m.s + m.c;
+    let mut at: usize = 0;
+    let mut x = b;
+    while x <= last {
+        if buf.len() - at < Model::BLOCK_BYTES {
+            return Run {
+                refusal: 0,
+                next: x,
+                length: at,
+            };
+        }
+        at = put_block(buf, at, m, first, outputs, x);
+        x += 1;
+    }
+    Run {
+        refusal: 0,
+        next: x,
+        length: at,
+    }
+}
+
+// The same for every model: 20, 22 and 23 are judged once for the whole run.
+pub fn write_blocks(m: Model, b: u32, buf: &mut [u8]) -> Run
+    ensures { λ r. ⌜ r ≡ runOf m b (length (now (buf .entry))) ⌝ }
+    ensures { λ r. ⌜ now (buf .exit) ≡ runBuffer m b (now (buf .entry)) ⌝ }
+{
+    let refusal = judged(m, b);
+    if refusal != 0 {
+        return Run {
+            refusal,
+            next: b,
+            length: 0,
+        };
+    }
+    let groups = m.groups;
+    let constraints = m.constraints;
+    whole(groups, constraints);
+    write_run(m, b, buf)
 }

@@ -22,7 +22,7 @@ pub between-le : (a b x : ℕ) → T (between a b x) → (a ≤ x) × (x ≤ b)
 between-le a b x t = (leb→le a x (and-left (leb a x) (leb x b) t), leb→le x b (and-right (leb a x) (leb x b) t))
 
 -- a clause over members 0 .. r - 1, at least one
-abbrev Clear : ℕ → List Literal → Type 0
+abbrev pub Clear : ℕ → List Literal → Type 0
 Clear r ls = T (not (isEmpty ls)) × All (λ l. variable l < r) ls
 
 pub members-clear : (code k : ℕ) → T (between 1 6 code) → All (Clear (memberCount code k)) (memberClauses code k)
@@ -63,7 +63,7 @@ module _ (s : ℕ) (c : Constraint) (t : T (constraintInRange s c)) where
   unfolding codeInRange
   code-six = and-left (between 1 6 (c .code)) (not (eqb (c .code) 6) || between 2 (limits .members - 1) (c .count)) code-in
 
-  groups-in : T (every (between 1 s) (groupsOf c))
+  pub groups-in : T (every (between 1 s) (groupsOf c))
   unfolding constraintInRange
   groups-in =
       and-right (codeInRange (c .code) (c .count)) (every (between 1 s) (groupsOf c))

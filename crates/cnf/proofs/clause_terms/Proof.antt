@@ -8,7 +8,7 @@ use Rattle.model.specs.declared.Literal.the-variants.{Pos}
 use Rattle.model.specs.Limits.{limits}
 use Rattle.model.specs.Assignment.{variable}
 use Rattle.cnf.specs.Parts.{literalTerm, clauseOf}
-use Rattle.cnf.proofs.MemberTerms.{fill-next}
+use Rattle.numbering.proofs.Arrays.{fill-next}
 use native.Mathlib.Omega.{arith}
 use borrow.Author.Needs.{needs}
 use Rattle.cnf.proofs.clause_terms.Statement.{statement}

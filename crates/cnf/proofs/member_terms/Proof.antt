@@ -5,7 +5,8 @@ use Prim.Native.Nat.{ℕ, _-_, _≤_}
 use lib.ListN.{length, take, length-set}
 use Rattle.model.specs.Limits.{limits}
 use Rattle.cnf.specs.Parts.{memberTerm}
-use Rattle.cnf.proofs.MemberTerms.{fill-next, small-at}
+use Rattle.cnf.proofs.MemberTerms.{small-at}
+use Rattle.numbering.proofs.Arrays.{fill-next}
 use native.Mathlib.Omega.{arith}
 use Rattle.cnf.proofs.member_terms.Statement.{statement}
 use Rattle.cnf.proofs.member_terms.Tie as tie

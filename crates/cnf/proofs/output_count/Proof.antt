@@ -1,17 +1,16 @@
 -- `output_count` is the number of a tree's outputs. Assumes nothing.
-use Rattle.cnf.proofs.Trees.{output-table}
+use mathlib.Core.Path.{_∙_}
+use Rattle.numbering.proofs.Counters.{within-word}
+use native.Mathlib.Omega.{arith}
 use borrow.Author.Needs.{needs}
 use Rattle.cnf.proofs.output_count.Statement.{statement}
 use Rattle.cnf.proofs.output_count.Tie as tie
 
-mul-result : tie.Need-mul-result
-mul-result c = search needs
-
-array-read-result : tie.Need-array-read-result
-array-read-result c = search needs
+output-count-requires : tie.Need-output-count-requires
+output-count-requires c κs = search needs
 
 returns : tie.Need-returns
-returns c = output-table (c .args .m) (c .pre)
+returns c = (c .output-count .ensures) ∙ within-word (c .before .args .m) (omega arith)
 
 pub output-count-spec : {M : Type 1} → statement M
-output-count-spec = tie.close (tie.spec mul-result array-read-result returns)
+output-count-spec = tie.close (tie.spec output-count-requires returns)

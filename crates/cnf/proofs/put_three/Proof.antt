@@ -4,26 +4,17 @@ use borrow.Author.Needs.{needs}
 use Rattle.cnf.proofs.put_three.Statement.{statement}
 use Rattle.cnf.proofs.put_three.Tie as tie
 
-array-set-from-ts : tie.Need-array-set-from-ts
-array-set-from-ts c = search needs
+sub-put-short : tie.Need-sub-put-short
+sub-put-short c = search needs
 
-array-set-from-ts-2 : tie.Need-array-set-from-ts-2
-array-set-from-ts-2 c = search needs
+part-put-short-start : tie.Need-part-put-short-start
+part-put-short-start c = search needs
 
-array-set-from-ts-3 : tie.Need-array-set-from-ts-3
-array-set-from-ts-3 c = search needs
+part-put-short-end : tie.Need-part-put-short-end
+part-put-short-end c = search needs
 
-sub-put-clause : tie.Need-sub-put-clause
-sub-put-clause c = search needs
-
-part-put-clause-start : tie.Need-part-put-clause-start
-part-put-clause-start c = search needs
-
-part-put-clause-end : tie.Need-part-put-clause-end
-part-put-clause-end c = search needs
-
-put-clause-requires : tie.Need-put-clause-requires
-put-clause-requires c κs = search needs
+put-short-requires : tie.Need-put-short-requires
+put-short-requires c κs = search needs
 
 add-result : tie.Need-add-result
 add-result c = search needs
@@ -32,19 +23,16 @@ same-length : tie.Need-same-length
 same-length c = search needs
 
 returns : tie.Need-returns
-returns c = tail _ (search needs) (c .before .before .put-clause .ensures)
+returns c = tail _ (search needs) (c .before .before .put-short .ensures)
 
 pub put-three-spec : {M : Type 1} → statement M
 put-three-spec =
     tie.close
     (tie.spec
-    array-set-from-ts
-    array-set-from-ts-2
-    array-set-from-ts-3
-    sub-put-clause
-    part-put-clause-start
-    part-put-clause-end
-    put-clause-requires
+    sub-put-short
+    part-put-short-start
+    part-put-short-end
+    put-short-requires
     add-result
     same-length
     returns)

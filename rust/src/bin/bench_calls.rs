@@ -1,0 +1,87 @@
+//! `bench_calls TITLE SHEET ANSWER RUNS`: the calls of the static library beside this crate's, in one process; prints rows of a table in microseconds.
+use counterpart::compare::calls::{settled, Calls, Counterpart};
+use counterpart::encode::Encoding;
+use std::hint::black_box;
+use std::time::Instant;
+
+struct Input {
+    sheet: Vec<u8>,
+    answer: Vec<u8>,
+    variables: usize,
+    /// The marks that the answer says.
+    marks: Vec<u8>,
+}
+
+type Work = fn(&dyn Calls, &Input);
+
+const STEPS: [(&str, Work); 4] = [("read", read), ("read and settle", settle), ("solver lines", lines), ("read, settle and close", close)];
+
+fn read(calls: &dyn Calls, input: &Input) {
+    black_box(calls.read(&input.sheet));
+}
+
+fn settle(calls: &dyn Calls, input: &Input) {
+    black_box(calls.settle(&input.sheet, &mut [0; 1024]));
+}
+
+fn lines(calls: &dyn Calls, input: &Input) {
+    black_box(marks(calls, input));
+}
+
+fn close(calls: &dyn Calls, input: &Input) {
+    assert_eq!(calls.close(&input.sheet, 1, &input.marks, &mut [0; 256]), 0);
+}
+
+/// The marks after all lines of the answer.
+fn marks(calls: &dyn Calls, input: &Input) -> Vec<u8> {
+    let mut marks = vec![0; input.variables];
+    let mut closed = 0;
+    for line in input.answer.split(|&byte| byte == b'\n') {
+        closed = calls.line(closed, line, &mut marks) & 1;
+    }
+    marks
+}
+
+/// Median microseconds of each side, their runs taking turns.
+fn measure(work: Work, sides: [&dyn Calls; 2], input: &Input, runs: usize) -> [f64; 2] {
+    let mut times = [Vec::new(), Vec::new()];
+    for _ in 0..runs {
+        for (calls, times) in sides.into_iter().zip(&mut times) {
+            let start = Instant::now();
+            work(calls, input);
+            times.push(start.elapsed().as_secs_f64() * 1e6);
+        }
+    }
+    times.map(|mut times| {
+        times.sort_by(f64::total_cmp);
+        times[times.len() / 2]
+    })
+}
+
+#[cfg(proved)]
+fn other() -> Option<&'static dyn Calls> {
+    Some(&counterpart::proved::Proved)
+}
+
+#[cfg(not(proved))]
+fn other() -> Option<&'static dyn Calls> {
+    None
+}
+
+fn main() {
+    let words: Vec<String> = std::env::args().collect();
+    let [_, title, sheet, answer, runs] = &words[..] else { panic!("usage: bench_calls TITLE SHEET ANSWER RUNS") };
+    let sheet = std::fs::read(sheet).expect("the sheet");
+    let answer = std::fs::read(answer).expect("the answer");
+    let variables = Encoding::of(&settled(&sheet).expect("a sheet that settles")).variables;
+    let mut input = Input { sheet, answer, variables, marks: Vec::new() };
+    input.marks = marks(&Counterpart, &input);
+    for (step, work) in STEPS {
+        let Some(other) = other() else {
+            println!("| {step} | {title} | not built | | |");
+            continue;
+        };
+        let [proved, rust] = measure(work, [other, &Counterpart], &input, runs.parse().expect("a number of runs"));
+        println!("| {step} | {title} | {proved:.0} | {rust:.0} | {:.2} |", proved / rust);
+    }
+}

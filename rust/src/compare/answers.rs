@@ -1,0 +1,221 @@
+//! Solver lines and marks for the comparison: whole answers, pieces of them, and lines that are wrong.
+use super::random::Random;
+use crate::encode::Encoding;
+
+/// The satisfying assignment of a draw, counters included, as marks.
+pub fn fill(encoding: &Encoding, draw: &[u64]) -> Vec<u8> {
+    let mut marks = vec![2; encoding.variables];
+    let model = encoding.settled.model();
+    for (index, group) in model.groups.iter().enumerate() {
+        let open: Vec<u32> = (0..model.entrants).filter(|e| group.open() >> e & 1 == 1).collect();
+        for &entrant in &open {
+            if draw[index] >> entrant & 1 == 1 {
+                marks[encoding.variable(index, entrant) as usize - 1] = 1;
+            }
+        }
+        if let Some((mut next, size)) = encoding.counter_start(index) {
+            fill_node(encoding.variable(index, open[0]) as usize, size as usize, &mut next, &mut marks);
+        }
+    }
+    marks
+}
+
+/// Marks the outputs of a tree and gives the number of its true leaves.
+fn fill_node(leaf: usize, size: usize, next: &mut i32, marks: &mut [u8]) -> usize {
+    if size < 2 {
+        return (0..size).filter(|at| marks[leaf + at - 1] == 1).count();
+    }
+    let many = fill_node(leaf, size / 2, next, marks) + fill_node(leaf + size / 2, size - size / 2, next, marks);
+    let first = *next as usize - 1;
+    *next += size as i32;
+    marks[first..first + many].fill(1);
+    many
+}
+
+/// Lent marks as a caller may hand them over: unsaid, of any bytes, now and then some said already.
+pub fn fresh(random: &mut Random, length: usize) -> Vec<u8> {
+    let kind = random.below(4);
+    let byte = |random: &mut Random| match kind {
+        0 | 1 => 0,
+        2 => random.pick(&[0, 3, 4, 127, 128, 255, b'1', b'2']),
+        _ => random.pick(&[0, 0, 0, 0, 0, 0, 0, 1, 2, 3]),
+    };
+    (0..length).map(|_| byte(random)).collect()
+}
+
+/// Longer marks than this are said in part only.
+const MOST_SAID: usize = 60_000;
+
+/// Several lines in a row.
+pub fn lines(random: &mut Random, length: usize) -> Vec<Vec<u8>> {
+    if length <= MOST_SAID && random.chance(40) {
+        return whole_answer(random, length);
+    }
+    (0..random.from_to(1, 6)).map(|_| line(random, length)).collect()
+}
+
+/// Every variable said once, over several lines, with a closing 0, and some lines between that do not belong.
+fn whole_answer(random: &mut Random, length: usize) -> Vec<Vec<u8>> {
+    let mut literals: Vec<i64> = (1..=length as i64).map(|variable| if random.chance(50) { variable } else { -variable }).collect();
+    if random.chance(50) {
+        random.shuffle(&mut literals);
+    }
+    let mut lines = Vec::new();
+    let mut rest = &literals[..];
+    while !rest.is_empty() {
+        let (now, later) = rest.split_at(random.from_to(1, rest.len()));
+        lines.push(v_line(now));
+        rest = later;
+        if random.chance(30) {
+            lines.push(line(random, length));
+        }
+    }
+    match lines.last_mut() {
+        Some(last) if random.chance(50) => last.extend_from_slice(b" 0"),
+        _ => lines.push(b"v 0".to_vec()),
+    }
+    if random.chance(30) {
+        lines.push(line(random, length));
+    }
+    lines
+}
+
+fn v_line(literals: &[i64]) -> Vec<u8> {
+    let mut line = "v".to_string();
+    literals.iter().for_each(|literal| line += &format!(" {literal}"));
+    line.into_bytes()
+}
+
+/// One line of any kind.
+pub fn line(random: &mut Random, length: usize) -> Vec<u8> {
+    let mut line = match random.below(10) {
+        0 => return passed_over(random),
+        1 => return odd_line(random),
+        _ => v_line(&literals(random, length)),
+    };
+    if random.chance(15) {
+        line.extend_from_slice(b" 0");
+    }
+    if random.chance(15) {
+        damage(random, &mut line);
+    }
+    line
+}
+
+/// A few literals, now and then above the marks' length or said twice.
+fn literals(random: &mut Random, length: usize) -> Vec<i64> {
+    let many = random.below(6);
+    let above = random.chance(10);
+    let literal = |random: &mut Random| {
+        let variable = if above && random.chance(30) || length == 0 {
+            length as i64 + random.pick(&[1, 2, 1000, 999_999_999 - length as i64])
+        } else {
+            random.from_to(1, length) as i64
+        };
+        if random.chance(50) {
+            variable
+        } else {
+            -variable
+        }
+    };
+    let mut literals: Vec<i64> = (0..many).map(|_| literal(random)).collect();
+    if many > 0 && random.chance(15) {
+        literals.push(random.pick(&literals) * random.pick(&[1, -1]));
+    }
+    literals
+}
+
+fn passed_over(random: &mut Random) -> Vec<u8> {
+    random.pick(&["c", "s", "c v 1 0", "s SATISFIABLE", "sUNSATISFIABLE", "c\0\u{ff}", "s  "]).as_bytes().to_vec()
+}
+
+/// Lines that are wrong in one way each, and a few that only look so; the first is empty.
+const ODD: &str = "|x|V 1|v1|v\t1|v 0 |v 1 |v |v  |v  1|v -0|v 00|v 01|v -01|v +1|v -|v --1|v - 1|v 1-|v 1\r|v 0 1|v 0 0|v 1a|v a| v 1|C|S|v 1 2 x\
+    |v 1234567890|v -1234567890|v 999999999|v -999999999|v 4294967297|v 18446744073709551617";
+
+fn odd_line(random: &mut Random) -> Vec<u8> {
+    let odd: Vec<&str> = ODD.split('|').collect();
+    random.pick(&odd).as_bytes().to_vec()
+}
+
+/// One byte changed, put in or taken out.
+fn damage(random: &mut Random, line: &mut Vec<u8>) {
+    let at = random.below(line.len());
+    match random.below(3) {
+        0 => line[at] = random.pick(b" -0123456789vcs\r\x80"),
+        1 => line.insert(at, random.pick(b" -0123456789")),
+        _ => drop(line.remove(at)),
+    }
+}
+
+#[cfg(test)]
+mod tests {
+    use super::super::{calls::settled, sheets};
+    use super::*;
+    use crate::close::close;
+    use crate::model::Model;
+    use crate::sheet::read;
+
+    /// Whether groups are a draw of the sheet, by the paper's sentence alone.
+    fn is_draw(model: &Model, sets: &[u64]) -> bool {
+        let fits = |(group, &set): (&crate::model::Group, &u64)| {
+            let many = set.count_ones();
+            group.fixed & !set == 0 && set & !group.possible == 0 && group.low <= many && many <= group.high
+        };
+        model.groups.iter().zip(sets).all(fits) && model.constraints.iter().all(|line| sheets::is_true(line, sets))
+    }
+
+    /// The groups that a word spells, n bits each.
+    fn sets(model: &Model, word: u64) -> Vec<u64> {
+        (0..model.groups.len()).map(|index| word >> (index as u32 * model.entrants) & model.everyone()).collect()
+    }
+
+    /// Small sheets, all of whose draws and assignments can be gone through.
+    fn small_models(many: usize) -> impl Iterator<Item = (Vec<u8>, Model)> {
+        let mut random = Random(3);
+        let models = std::iter::repeat_with(move || sheets::valid(&mut random).sheet).map(|sheet| (read(&sheet).unwrap(), sheet));
+        models.filter(|(model, _)| model.entrants * model.groups.len() as u32 <= 12).map(|(model, sheet)| (sheet, model)).take(many)
+    }
+
+    #[test]
+    fn draws_and_satisfying_assignments_match_one_for_one() {
+        let (mut drawn, mut counted) = (0, 0);
+        for (sheet, model) in small_models(3_000) {
+            let bits = model.entrants * model.groups.len() as u32;
+            let draws: Vec<Vec<u64>> = (0..1 << bits).map(|word| sets(&model, word)).filter(|sets| is_draw(&model, sets)).collect();
+            let Ok(settled) = settled(&sheet) else {
+                assert!(draws.is_empty(), "21 for a sheet with a draw");
+                continue;
+            };
+            let encoding = Encoding::of(&settled);
+            for draw in &draws {
+                assert_eq!(close(&encoding, true, &fill(&encoding, draw)).as_ref(), Ok(draw));
+                drawn += 1;
+            }
+            if encoding.variables <= 12 {
+                let marks = |word: u32| (0..encoding.variables).map(|at| 1 + (word >> at & 1) as u8).collect::<Vec<u8>>();
+                let satisfying = (0..1 << encoding.variables).filter(|&word| close(&encoding, true, &marks(word)).is_ok()).count();
+                assert_eq!(satisfying, draws.len());
+                counted += 1;
+            }
+        }
+        assert!(drawn > 1_000 && counted > 1_000, "{drawn} draws, {counted} sheets gone through");
+    }
+
+    #[test]
+    fn the_header_counts_what_the_blocks_hold() {
+        for (sheet, _) in small_models(3_000) {
+            let Ok(settled) = settled(&sheet) else { continue };
+            let encoding = Encoding::of(&settled);
+            let (mut clauses, mut highest) = (0, 0);
+            for block in 1..=encoding.blocks() {
+                encoding.each_clause(block, &mut |clause| {
+                    clauses += 1;
+                    highest = clause.iter().fold(highest, |highest, literal| highest.max(literal.unsigned_abs() as usize));
+                });
+            }
+            assert_eq!(clauses, encoding.clauses());
+            assert!(highest <= encoding.variables);
+        }
+    }
+}

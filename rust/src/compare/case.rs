@@ -1,0 +1,363 @@
+//! One case of the comparison: a call's input, the kind of case it is, and whether both sides answer alike.
+use super::calls::{settled, Calls, Counterpart};
+use crate::encode::Encoding;
+use crate::model::GROUPS;
+use crate::refusal::*;
+use crate::settle::Settled;
+
+#[derive(Clone, Debug)]
+pub enum Case {
+    Read {
+        sheet: Vec<u8>,
+    },
+    /// `spare`: words of the table beyond those of the groups, or missing.
+    Settle {
+        sheet: Vec<u8>,
+        spare: isize,
+    },
+    /// `spare`: bytes of the buffer beyond the block's length, or missing.
+    Block {
+        sheet: Vec<u8>,
+        block: u32,
+        spare: isize,
+    },
+    Lines {
+        marks: Vec<u8>,
+        lines: Vec<Vec<u8>>,
+    },
+    Close {
+        sheet: Vec<u8>,
+        closed: bool,
+        marks: Vec<u8>,
+        room: usize,
+    },
+}
+
+pub type Kind = &'static str;
+
+pub const SAMPLE: Kind = "line: answers to the published samples";
+
+/// Every kind of case, in the order of the report. A run that misses one has failed.
+pub const KINDS: &[Kind] = &[
+    "read: accepted",
+    "read: 1 too long",
+    "read: 2 no end",
+    "read: 3 line length",
+    "read: 4 field",
+    "read: 5 kind of line",
+    "read: 5 line missing",
+    "read: 6 field count",
+    "read: 7 range",
+    "read: 8 group not the next",
+    "read: 9 group twice",
+    "settle: with counters",
+    "settle: open marks and no counter",
+    "settle: nothing open",
+    "settle: three passes or more",
+    "settle: 21",
+    "settle: sheet refused",
+    "settle: table a word short",
+    "settle: table longer",
+    "block: header",
+    "block: counter",
+    "block: group without counter",
+    "block: line",
+    "block: line without clauses",
+    "block: buffer exactly long enough",
+    "block: buffer longer",
+    "block: 23 no such block",
+    "block: 24 buffer a byte short",
+    "block: 21",
+    "block: sheet refused",
+    SAMPLE,
+    "line: c or s",
+    "line: c or s after the closing 0",
+    "line: v",
+    "line: v with closing 0",
+    "line: v with a thousand literals",
+    "line: v on marks longer than any listing's",
+    "line: 10 empty or first byte",
+    "line: 10 form",
+    "line: 11 above the marks",
+    "line: 12 said in an earlier line",
+    "line: 12 said in this line",
+    "line: 25 after the closing 0",
+    "close: groups",
+    "close: groups, no variables",
+    "close: 26 marks too few",
+    "close: 26 marks too many",
+    "close: 27 no closing 0",
+    "close: 27 unsaid",
+    "close: 28 clause false",
+    "close: 21",
+    "close: sheet refused",
+    "close: table too short",
+];
+
+/// What came of a case. Several calls, each of one kind or more, may be in it.
+#[derive(Default)]
+pub struct Outcome {
+    pub kinds: Vec<Kind>,
+    pub calls: u64,
+    pub difference: Option<Difference>,
+    /// Where the kinds of the current call begin.
+    current: usize,
+}
+
+pub struct Difference {
+    pub kinds: Vec<Kind>,
+    pub words: String,
+}
+
+impl Outcome {
+    fn note(&mut self, kind: Kind) {
+        self.kinds.push(kind);
+    }
+
+    /// Keeps the first difference; the counterpart's answer stands first.
+    fn compare<T: PartialEq + std::fmt::Debug>(&mut self, what: &str, ours: T, theirs: T) {
+        if ours != theirs && self.difference.is_none() {
+            let words = format!("{what}: counterpart {ours:?}, other side {theirs:?}");
+            self.difference = Some(Difference { kinds: self.kinds[self.current..].to_vec(), words });
+        }
+    }
+
+    fn compare_bytes<T: PartialEq + std::fmt::Debug>(&mut self, what: &str, ours: &[T], theirs: &[T]) {
+        if let Some(at) = (0..ours.len()).find(|&at| ours[at] != theirs[at]) {
+            self.compare(&format!("{what} at {at}"), &ours[at], &theirs[at]);
+        }
+    }
+}
+
+/// Bytes that nobody would write by chance.
+fn junk(length: usize) -> Vec<u8> {
+    (0..length).map(|at| (at * 37 + 165) as u8).collect()
+}
+
+fn junk_words(length: usize) -> Vec<u64> {
+    (0..length as u64).map(|at| at.wrapping_mul(0x9E37_79B9_7F4A_7C15) | 1 << 63).collect()
+}
+
+pub fn check(case: &Case, other: &dyn Calls) -> Outcome {
+    let mut outcome = Outcome { calls: 1, ..Outcome::default() };
+    match case {
+        Case::Read { sheet } => check_read(sheet, other, &mut outcome),
+        Case::Settle { sheet, spare } => check_settle(sheet, *spare, other, &mut outcome),
+        Case::Block { sheet, block, spare } => check_block(sheet, *block, *spare, other, &mut outcome),
+        Case::Lines { marks, lines } => check_lines(marks, lines, other, &mut outcome),
+        Case::Close { sheet, closed, marks, room } => check_close(sheet, *closed, marks, *room, other, &mut outcome),
+    }
+    outcome
+}
+
+fn check_read(sheet: &[u8], other: &dyn Calls, outcome: &mut Outcome) {
+    let answer = Counterpart.read(sheet);
+    outcome.note(read_kind(sheet, answer));
+    outcome.compare("refusal * 65536 + line", answer, other.read(sheet));
+}
+
+fn read_kind(sheet: &[u8], answer: u64) -> Kind {
+    let (number, line) = ((answer >> 16) as u32, (answer & 0xFFFF) as usize);
+    match number {
+        0 => "read: accepted",
+        TOO_LONG => "read: 1 too long",
+        NO_END => "read: 2 no end",
+        LENGTH => "read: 3 line length",
+        FIELD => "read: 4 field",
+        KIND if line > sheet.iter().filter(|&&byte| byte == b'\n').count() => "read: 5 line missing",
+        KIND => "read: 5 kind of line",
+        COUNT => "read: 6 field count",
+        RANGE => "read: 7 range",
+        NOT_NEXT => "read: 8 group not the next",
+        _ => "read: 9 group twice",
+    }
+}
+
+fn check_settle(sheet: &[u8], spare: isize, other: &dyn Calls, outcome: &mut Outcome) {
+    let words = match settled(sheet) {
+        Ok(settled) => {
+            outcome.note(settled_kind(&settled));
+            if settled.passes() > 2 {
+                outcome.note("settle: three passes or more");
+            }
+            match spare {
+                0 => {}
+                ..0 => outcome.note("settle: table a word short"),
+                _ => outcome.note("settle: table longer"),
+            }
+            4 * settled.model().groups.len()
+        }
+        Err(CONTRADICTION) => {
+            outcome.note("settle: 21");
+            1024
+        }
+        Err(_) => {
+            outcome.note("settle: sheet refused");
+            1024
+        }
+    };
+    let mut ours = junk_words(words.saturating_add_signed(spare));
+    let mut theirs = ours.clone();
+    outcome.compare("refusal * 65536 + passes", Counterpart.settle(sheet, &mut ours), other.settle(sheet, &mut theirs));
+    outcome.compare_bytes("table", &ours, &theirs);
+}
+
+fn settled_kind(settled: &Settled) -> Kind {
+    let groups = &settled.model().groups;
+    let encoding = Encoding::of(settled);
+    if (0..groups.len()).any(|index| encoding.counter_start(index).is_some()) {
+        "settle: with counters"
+    } else if groups.iter().any(|group| group.open() != 0) {
+        "settle: open marks and no counter"
+    } else {
+        "settle: nothing open"
+    }
+}
+
+fn check_block(sheet: &[u8], block: u32, spare: isize, other: &dyn Calls, outcome: &mut Outcome) {
+    let whole = Counterpart.block(sheet, block, &mut [0; 32_768]);
+    let length = match (whole >> 32) as u32 {
+        0 => {
+            note_block(sheet, block, whole as usize, spare, outcome);
+            whole as usize
+        }
+        number => {
+            outcome.note(match number {
+                NO_BLOCK => "block: 23 no such block",
+                CONTRADICTION => "block: 21",
+                _ => "block: sheet refused",
+            });
+            64
+        }
+    };
+    let mut ours = junk(length.saturating_add_signed(spare));
+    let mut theirs = ours.clone();
+    outcome.compare("refusal * 2^32 + length", Counterpart.block(sheet, block, &mut ours), other.block(sheet, block, &mut theirs));
+    outcome.compare_bytes("buffer", &ours, &theirs);
+}
+
+fn note_block(sheet: &[u8], block: u32, length: usize, spare: isize, outcome: &mut Outcome) {
+    if spare < 0 && length > 0 {
+        outcome.note("block: 24 buffer a byte short");
+        return;
+    }
+    let groups = settled(sheet).map_or(0, |settled| settled.model().groups.len());
+    outcome.note(match (block as usize, length) {
+        (0, _) => "block: header",
+        (block, 0) if block <= groups => "block: group without counter",
+        (block, _) if block <= groups => "block: counter",
+        (_, 0) => "block: line without clauses",
+        _ => "block: line",
+    });
+    outcome.note(if spare > 0 { "block: buffer longer" } else { "block: buffer exactly long enough" });
+}
+
+/// Line after line, each side's state and marks carried on.
+fn check_lines(marks: &[u8], lines: &[Vec<u8>], other: &dyn Calls, outcome: &mut Outcome) {
+    let (mut ours, mut theirs) = (marks.to_vec(), marks.to_vec());
+    let (mut closed, mut their_closed) = (0, 0);
+    outcome.calls = lines.len() as u64;
+    for (index, line) in lines.iter().enumerate() {
+        let answer = Counterpart.line(closed, line, &mut ours);
+        outcome.current = outcome.kinds.len();
+        outcome.note(line_kind(line, answer, closed, ours.len()));
+        let their_answer = other.line(their_closed, line, &mut theirs);
+        outcome.compare(&format!("line {}: refusal * 2 + closed", index + 1), answer, their_answer);
+        outcome.compare_bytes(&format!("marks after line {}", index + 1), &ours, &theirs);
+        (closed, their_closed) = (answer & 1, their_answer & 1);
+    }
+}
+
+fn line_kind(line: &[u8], answer: u32, closed: u32, length: usize) -> Kind {
+    let first = line.first();
+    match answer / 2 {
+        FORM if first == Some(&b'v') => "line: 10 form",
+        FORM => "line: 10 empty or first byte",
+        ABOVE => "line: 11 above the marks",
+        SAID if Counterpart.line(0, line, &mut vec![0; length]) / 2 == SAID => "line: 12 said in this line",
+        SAID => "line: 12 said in an earlier line",
+        CLOSED => "line: 25 after the closing 0",
+        _ if first != Some(&b'v') && closed == 1 => "line: c or s after the closing 0",
+        _ if first != Some(&b'v') => "line: c or s",
+        _ if length > 49_152 => "line: v on marks longer than any listing's",
+        _ if line.iter().filter(|&&byte| byte == b' ').count() >= 1_000 => "line: v with a thousand literals",
+        _ if answer & 1 == 1 => "line: v with closing 0",
+        _ => "line: v",
+    }
+}
+
+fn check_close(sheet: &[u8], closed: bool, marks: &[u8], room: usize, other: &dyn Calls, outcome: &mut Outcome) {
+    let mut ours = junk_words(room);
+    let mut theirs = ours.clone();
+    let answer = Counterpart.close(sheet, closed.into(), marks, &mut ours);
+    outcome.note(close_kind(sheet, closed, marks, answer));
+    if room < GROUPS as usize {
+        outcome.note("close: table too short");
+    }
+    outcome.compare("refusal", answer, other.close(sheet, closed.into(), marks, &mut theirs));
+    outcome.compare_bytes("groups", &ours, &theirs);
+}
+
+fn close_kind(sheet: &[u8], closed: bool, marks: &[u8], answer: u32) -> Kind {
+    match answer {
+        0 if marks.is_empty() => "close: groups, no variables",
+        0 => "close: groups",
+        MARKS => {
+            let variables = settled(sheet).map_or(0, |settled| Encoding::of(&settled).variables);
+            if marks.len() < variables {
+                "close: 26 marks too few"
+            } else {
+                "close: 26 marks too many"
+            }
+        }
+        UNSAID if !closed => "close: 27 no closing 0",
+        UNSAID => "close: 27 unsaid",
+        FALSE_CLAUSE => "close: 28 clause false",
+        CONTRADICTION => "close: 21",
+        _ => "close: sheet refused",
+    }
+}
+
+impl Case {
+    pub fn sheet(&self) -> Option<&[u8]> {
+        match self {
+            Case::Read { sheet } | Case::Settle { sheet, .. } | Case::Block { sheet, .. } | Case::Close { sheet, .. } => Some(sheet),
+            Case::Lines { .. } => None,
+        }
+    }
+
+    /// The same case on another sheet; marks are cut or lengthened to its variables.
+    pub fn with_sheet(&self, new: Vec<u8>) -> Case {
+        let mut case = self.clone();
+        match &mut case {
+            Case::Read { sheet } | Case::Settle { sheet, .. } | Case::Block { sheet, .. } => *sheet = new,
+            Case::Close { sheet, marks, .. } => {
+                let variables = |sheet: &[u8]| settled(sheet).ok().map(|settled| Encoding::of(&settled).variables as isize);
+                if let (Some(before), Some(now)) = (variables(sheet), variables(&new)) {
+                    marks.resize((marks.len() as isize + now - before).max(0) as usize, 1);
+                }
+                *sheet = new;
+            }
+            Case::Lines { .. } => {}
+        }
+        case
+    }
+
+    /// The case in words, its sheet or lines below.
+    pub fn show(&self) -> String {
+        let text = |bytes: &[u8]| bytes.escape_ascii().to_string();
+        let odd_lines = |sheet: &[u8]| sheet.split_inclusive(|&byte| byte == b'\n').map(|line| format!("\"{}\"\n", text(line))).collect();
+        let plain = |sheet: &[u8]| sheet.ends_with(b"\n") && sheet.iter().all(|&byte| byte == b'\n' || byte == b' ' || byte.is_ascii_graphic());
+        let sheet = |sheet: &[u8]| if plain(sheet) { String::from_utf8_lossy(sheet).into_owned() } else { odd_lines(sheet) };
+        match self {
+            Case::Read { sheet: s } => format!("read\n{}", sheet(s)),
+            Case::Settle { sheet: s, spare } => format!("settle, table of 4*s{spare:+} words\n{}", sheet(s)),
+            Case::Block { sheet: s, block, spare } => format!("block {block}, buffer of the block's length{spare:+}\n{}", sheet(s)),
+            Case::Close { sheet: s, closed, marks, room } => format!("close, closed {closed}, marks {marks:?}, table of {room} words\n{}", sheet(s)),
+            Case::Lines { marks, lines } => {
+                let lines: String = lines.iter().map(|line| format!("  \"{}\"\n", text(line))).collect();
+                format!("lines on marks {marks:?}\n{lines}")
+            }
+        }
+    }
+}

@@ -1,0 +1,10 @@
+//! Comparison of the proved code with this crate, case by case.
+pub mod answers;
+pub mod calls;
+pub mod case;
+pub mod programs;
+pub mod random;
+pub mod run;
+pub mod samples;
+pub mod sheets;
+pub mod shrink;

@@ -1,0 +1,201 @@
+//! Comparison with the built programs, each run on generated sheets: what they print against what this crate makes of the sheet.
+use super::answers;
+use super::calls::settled;
+use super::case::{Case, Kind};
+use super::random::Random;
+use super::sheets;
+use super::shrink::shrink;
+use crate::answer::read_lines;
+use crate::encode::Encoding;
+use crate::listing::listing;
+use crate::{close, sheet};
+use std::collections::BTreeMap;
+use std::fs::{self, File};
+use std::path::{Path, PathBuf};
+use std::process::Command;
+
+const PROGRAMS: [&str; 4] = ["read_sheet", "propagate_sheet", "write_cnf", "read_solution"];
+
+/// What a program must print: on standard output exactly, or as lines on either output beside words that are free.
+struct Wanted {
+    kind: Kind,
+    out: Option<Vec<u8>>,
+    lines: String,
+}
+
+pub struct Programs {
+    bin: PathBuf,
+    scratch: PathBuf,
+}
+
+impl Programs {
+    pub fn new(bin: &Path) -> std::io::Result<Programs> {
+        let scratch = std::env::temp_dir().join(format!("compare-{}", std::process::id()));
+        fs::create_dir_all(&scratch)?;
+        Ok(Programs { bin: bin.to_path_buf(), scratch })
+    }
+
+    /// Runs `many` sheets through each program that is there, and reports.
+    pub fn run(&self, seed: u64, many: u64, say: &mut dyn FnMut(&str)) -> std::io::Result<bool> {
+        let mut random = Random(seed);
+        let mut met: BTreeMap<Kind, (u64, u64)> = BTreeMap::new();
+        let built: Vec<&str> = PROGRAMS.into_iter().filter(|name| self.bin.join(name).is_file()).collect();
+        for index in 0..many {
+            let (sheet, answer) = sample(&mut random);
+            for name in &built {
+                let (kind, same) = self.compare(name, &sheet, &answer)?;
+                let counts = met.entry(kind).or_default();
+                counts.0 += 1;
+                counts.1 += u64::from(!same);
+                if !same && counts.1 == 1 {
+                    say(&self.smallest(name, kind, sheet.clone(), &answer));
+                }
+            }
+            if index % 500 == 499 {
+                say(&format!("{} of {many} sheets", index + 1));
+            }
+        }
+        PROGRAMS.iter().filter(|name| !built.contains(name)).for_each(|name| say(&format!("{name} is not built: left out")));
+        let failures = met.values().filter(|counts| counts.1 > 0).count();
+        met.iter().for_each(|(kind, counts)| say(&format!("{:>9}  {kind:<45} {}", counts.0, if counts.1 > 0 { "FAILED" } else { "same" })));
+        say(&format!("{} passed, {failures} failed", met.len() - failures));
+        Ok(failures == 0)
+    }
+
+    fn compare(&self, name: &str, sheet: &[u8], answer: &[u8]) -> std::io::Result<(Kind, bool)> {
+        let wanted = wanted(name, sheet, answer);
+        let (out, err) = self.print(name, sheet, answer)?;
+        let same = match &wanted.out {
+            Some(exactly) => out == *exactly && same_lines(&err, &wanted.lines),
+            None => same_lines(&(err + &String::from_utf8_lossy(&out)), &wanted.lines),
+        };
+        Ok((wanted.kind, same))
+    }
+
+    /// What a program prints, on standard output and on standard error.
+    fn print(&self, name: &str, sheet: &[u8], answer: &[u8]) -> std::io::Result<(Vec<u8>, String)> {
+        let (sheet_file, answer_file) = (self.scratch.join("sheet"), self.scratch.join("answer"));
+        fs::write(&sheet_file, sheet)?;
+        let mut command = Command::new(self.bin.join(name));
+        if name == "read_solution" {
+            fs::write(&answer_file, answer)?;
+            command.arg(&sheet_file).stdin(File::open(&answer_file)?);
+        } else {
+            command.stdin(File::open(&sheet_file)?);
+        }
+        let output = command.output()?;
+        Ok((output.stdout, String::from_utf8_lossy(&output.stderr).into_owned()))
+    }
+
+    fn smallest(&self, name: &str, kind: Kind, sheet: Vec<u8>, answer: &[u8]) -> String {
+        let fails = |case: &Case| case.sheet().is_some_and(|sheet| self.compare(name, sheet, answer).is_ok_and(|(_, same)| !same));
+        let smallest = shrink(Case::Read { sheet }, &fails);
+        let sheet = smallest.sheet().unwrap_or_default();
+        let (out, err) = self.print(name, sheet, answer).unwrap_or_default();
+        let wanted = wanted(name, sheet, answer);
+        let wanted = String::from_utf8_lossy(&wanted.out.unwrap_or_default()).into_owned() + &wanted.lines;
+        let printed = String::from_utf8_lossy(&out).into_owned() + &err;
+        format!("difference in {kind}\n{}answer\n  {}\nit printed\n{printed}\nwanted\n{wanted}", smallest.show(), answer.escape_ascii())
+    }
+}
+
+impl Drop for Programs {
+    fn drop(&mut self) {
+        let _ = fs::remove_dir_all(&self.scratch);
+    }
+}
+
+/// Whether the lines that report something are the wanted ones; such a line may go on in words after a colon.
+fn same_lines(printed: &str, wanted: &str) -> bool {
+    let reports = printed.lines().filter(|line| ["refused ", "passes ", "line "].iter().any(|start| line.starts_with(start)));
+    let reports: Vec<&str> = reports.collect();
+    let agree = |(printed, wanted): (&&str, &str)| printed.strip_prefix(wanted).is_some_and(|rest| rest.is_empty() || rest.starts_with(':'));
+    reports.len() == wanted.lines().count() && reports.iter().zip(wanted.lines()).all(agree)
+}
+
+/// A sheet, valid or damaged, and an answer for it.
+fn sample(random: &mut Random) -> (Vec<u8>, Vec<u8>) {
+    let sample = sheets::valid(random);
+    if random.chance(30) {
+        return (sheets::damaged(random, &sample.sheet), b"v 0\n".to_vec());
+    }
+    let marks = match (settled(&sample.sheet), &sample.draw) {
+        (Ok(settled), Some(draw)) => answers::fill(&Encoding::of(&settled), draw),
+        (Ok(settled), None) => vec![2; Encoding::of(&settled).variables],
+        (Err(_), _) => Vec::new(),
+    };
+    (sample.sheet, answer(random, &marks))
+}
+
+/// The marks as a solver prints them, ten to a line; now and then a line of another kind between.
+fn answer(random: &mut Random, marks: &[u8]) -> Vec<u8> {
+    let literals: Vec<String> = marks.iter().enumerate().map(|(at, &mark)| format!(" {}{}", if mark == 1 { "" } else { "-" }, at + 1)).collect();
+    let mut text = b"s SATISFIABLE\n".to_vec();
+    for chunk in literals.chunks(10) {
+        text.extend(format!("v{}\n", chunk.concat()).into_bytes());
+        if random.chance(3) {
+            text.extend(answers::line(random, marks.len()));
+            text.push(b'\n');
+        }
+    }
+    text.extend_from_slice(b"v 0\n");
+    text
+}
+
+fn wanted(name: &str, sheet: &[u8], answer: &[u8]) -> Wanted {
+    match name {
+        "read_sheet" => wanted_read(sheet),
+        "propagate_sheet" => wanted_settled(sheet),
+        "write_cnf" => wanted_listing(sheet),
+        _ => wanted_groups(sheet, answer),
+    }
+}
+
+fn refused(kind: Kind, lines: String) -> Wanted {
+    Wanted { kind, out: None, lines }
+}
+
+fn whole(kind: Kind, out: Vec<u8>, lines: String) -> Wanted {
+    Wanted { kind, out: Some(out), lines }
+}
+
+fn wanted_read(bytes: &[u8]) -> Wanted {
+    match sheet::read(bytes) {
+        Ok(model) => {
+            let text = format!("{} entrants, {} groups, {} constraints\n", model.entrants, model.groups.len(), model.constraints.len());
+            whole("read_sheet: accepted", text.into_bytes(), String::new())
+        }
+        Err(no) => refused("read_sheet: refused", format!("refused {} at line {}", no.number, no.line)),
+    }
+}
+
+fn wanted_settled(bytes: &[u8]) -> Wanted {
+    if let Err(no) = sheet::read(bytes) {
+        return refused("propagate_sheet: sheet refused", format!("refused {} at line {}", no.number, no.line));
+    }
+    match settled(bytes) {
+        Ok(settled) => whole("propagate_sheet: settled", sheet::write(settled.model()), format!("passes {}\n", settled.passes())),
+        Err(number) => refused("propagate_sheet: 21", format!("refused {number}")),
+    }
+}
+
+fn wanted_listing(bytes: &[u8]) -> Wanted {
+    match settled(bytes) {
+        Ok(settled) => whole("write_cnf: listing", listing(&Encoding::of(&settled)), String::new()),
+        Err(number) => whole("write_cnf: refused", format!("{number}\n").into_bytes(), String::new()),
+    }
+}
+
+fn wanted_groups(bytes: &[u8], answer: &[u8]) -> Wanted {
+    if let Err(no) = sheet::read(bytes) {
+        return refused("read_solution: sheet refused", format!("refused {} at line {}", no.number, no.line));
+    }
+    let Ok(settled) = settled(bytes) else { return refused("read_solution: 21", "refused 21".to_string()) };
+    let encoding = Encoding::of(&settled);
+    let mut err = String::new();
+    let (closed, marks) = read_lines(answer, encoding.variables, &mut |line, number| err += &format!("line {line}: refused {number}\n"));
+    match close::close(&encoding, closed, &marks) {
+        Ok(groups) => whole("read_solution: groups", close::table(&groups).into_bytes(), err),
+        Err(number) => refused("read_solution: refused", format!("{err}refused {number}")),
+    }
+}

@@ -1,0 +1,273 @@
+//! A run of the comparison: cases from a seed, counted by kind, with the smallest case of each difference.
+use super::calls::{settled, Calls};
+use super::case::{check, Case, Kind, KINDS, SAMPLE};
+use super::random::Random;
+use super::shrink::shrink;
+use super::{answers, samples, sheets};
+use crate::encode::Encoding;
+use std::collections::BTreeMap;
+use std::time::{Duration, Instant};
+
+/// How many cases of each kind there were, and how many calls they made; which kinds failed.
+#[derive(Default)]
+pub struct Tally {
+    pub calls: u64,
+    pub met: BTreeMap<Kind, u64>,
+    pub failed: Vec<Kind>,
+}
+
+/// Compares until so many calls are made. `say` gets what there is to print.
+pub fn run(other: &dyn Calls, seed: u64, calls: u64, say: &mut dyn FnMut(&str)) -> Tally {
+    let mut random = Random(seed);
+    let mut tally = Tally::default();
+    for case in samples::cases() {
+        take(&case, other, &mut tally, say);
+        *tally.met.entry(SAMPLE).or_default() += 1;
+        if !tally.failed.is_empty() {
+            tally.failed.push(SAMPLE);
+        }
+    }
+    let mut next_word = Instant::now() + Duration::from_secs(3);
+    while tally.calls < calls {
+        for case in batch(&mut random) {
+            take(&case, other, &mut tally, say);
+        }
+        if Instant::now() >= next_word {
+            say(&format!("{} of {calls} cases, {} kinds with a difference", tally.calls, tally.failed.len()));
+            next_word = Instant::now() + Duration::from_secs(3);
+        }
+    }
+    tally
+}
+
+fn take(case: &Case, other: &dyn Calls, tally: &mut Tally, say: &mut dyn FnMut(&str)) {
+    let outcome = check(case, other);
+    tally.calls += outcome.calls;
+    outcome.kinds.iter().for_each(|kind| *tally.met.entry(kind).or_default() += 1);
+    let Some(difference) = outcome.difference else { return };
+    if difference.kinds.iter().any(|kind| !tally.failed.contains(kind)) {
+        say(&smallest(case, difference.kinds[0], other));
+    }
+    tally.failed.extend(difference.kinds);
+}
+
+/// The smallest case found that differs in the same kind, in words.
+fn smallest(case: &Case, kind: Kind, other: &dyn Calls) -> String {
+    let difference = |case: &Case| check(case, other).difference.filter(|difference| difference.kinds.contains(&kind));
+    let smallest = shrink(case.clone(), &|case| difference(case).is_some());
+    let words = difference(&smallest).map(|difference| difference.words).unwrap_or_default();
+    format!("difference in {kind}: {words}\n{}", smallest.show())
+}
+
+impl Tally {
+    /// One line a kind, then 'N passed, M failed'; a kind that was never met has failed.
+    pub fn report(&self, say: &mut dyn FnMut(&str)) -> bool {
+        let mut failures = 0;
+        for kind in KINDS {
+            let met = self.met.get(kind).copied().unwrap_or(0);
+            let verdict = match met {
+                0 => "FAILED: never met",
+                _ if self.failed.contains(kind) => "FAILED",
+                _ => "same",
+            };
+            failures += usize::from(verdict != "same");
+            say(&format!("{met:>9}  {kind:<45} {verdict}"));
+        }
+        say(&format!("{} cases", self.calls));
+        say(&format!("{} passed, {failures} failed", KINDS.len() - failures));
+        failures == 0
+    }
+}
+
+/// The cases made from one sheet.
+pub fn batch(random: &mut Random) -> Vec<Case> {
+    let sample = sheets::valid(random);
+    if random.chance(45) {
+        return damaged_batch(random, &sample.sheet);
+    }
+    let sheet = sample.sheet;
+    let mut cases = vec![Case::Read { sheet: sheet.clone() }];
+    cases.push(Case::Settle { sheet: sheet.clone(), spare: random.pick(&[0, 0, -1, 1, 7]) });
+    for _ in 0..3 {
+        cases.push(block_case(random, &sheet));
+    }
+    cases.push(lines_case(random));
+    cases.push(close_case(random, sheet, sample.draw.as_deref()));
+    cases
+}
+
+fn damaged_batch(random: &mut Random, sheet: &[u8]) -> Vec<Case> {
+    let sheet = sheets::damaged(random, sheet);
+    let mut cases = vec![Case::Read { sheet: sheet.clone() }];
+    match random.below(6) {
+        0 => cases.push(Case::Settle { sheet, spare: 0 }),
+        1 => cases.push(block_case(random, &sheet)),
+        2 => cases.push(close_case(random, sheet, None)),
+        _ => {}
+    }
+    cases
+}
+
+fn block_case(random: &mut Random, sheet: &[u8]) -> Case {
+    let blocks = settled(sheet).map_or(3, |settled| Encoding::of(&settled).blocks()) as u32;
+    let block = match random.below(10) {
+        0 => 0,
+        1 => blocks,
+        2 => blocks.saturating_add(random.pick(&[1, 2, 1000, u32::MAX])),
+        _ => random.below(blocks as usize + 1) as u32,
+    };
+    Case::Block { sheet: sheet.to_vec(), block, spare: random.pick(&[0, 0, -1, 1, 50]) }
+}
+
+fn lines_case(random: &mut Random) -> Case {
+    let length = match random.below(500) {
+        0 | 1 => random.pick(&[49_152, 49_153, 60_000, 65_537, 100_000]),
+        2..=11 => random.from_to(1_000, 3_000),
+        _ => random.below(30),
+    };
+    let lines = answers::lines(random, length);
+    Case::Lines { marks: answers::fresh(random, length), lines }
+}
+
+fn close_case(random: &mut Random, sheet: Vec<u8>, draw: Option<&[u64]>) -> Case {
+    let mut marks = match settled(&sheet) {
+        Ok(settled) => match (Encoding::of(&settled), draw) {
+            (encoding, Some(draw)) => answers::fill(&encoding, draw),
+            (encoding, None) => (0..encoding.variables).map(|_| random.pick(&[1, 2])).collect(),
+        },
+        Err(_) => vec![1; random.below(5)],
+    };
+    let mut closed = true;
+    if !marks.is_empty() {
+        let at = random.below(marks.len());
+        match random.below(10) {
+            0..=2 => marks[at] = 3 - marks[at],
+            3 => marks[at] = random.pick(&[0, 3, 255]),
+            4 => drop(marks.pop()),
+            _ => {}
+        }
+    }
+    match random.below(10) {
+        0 => closed = false,
+        1 => marks.push(1),
+        _ => {}
+    }
+    Case::Close { sheet, closed, marks, room: random.pick(&[256, 256, 256, 255, 300]) }
+}
+
+#[cfg(test)]
+mod tests {
+    use super::super::calls::Counterpart;
+    use super::*;
+
+    const CALLS: u64 = 20_000;
+
+    fn outcome(other: &dyn Calls) -> (Tally, String) {
+        let mut text = String::new();
+        let tally = run(other, 1, CALLS, &mut |line| text = format!("{text}{line}\n"));
+        (tally, text)
+    }
+
+    #[test]
+    fn no_difference_from_itself_and_every_kind_is_met() {
+        let (tally, text) = outcome(&Counterpart);
+        assert!(tally.failed.is_empty(), "{text}");
+        for kind in KINDS {
+            assert!(tally.met.contains_key(kind), "never met: {kind}");
+        }
+        assert_eq!(tally.met.len(), KINDS.len(), "a kind that is not in the list");
+    }
+
+    /// This crate with one call exchanged.
+    struct Broken {
+        read: fn(&[u8]) -> u64,
+        settle: fn(&[u8], &mut [u64]) -> u64,
+        block: fn(&[u8], u32, &mut [u8]) -> u64,
+        line: fn(u32, &[u8], &mut [u8]) -> u32,
+        close: fn(&[u8], u32, &[u8], &mut [u64]) -> u32,
+    }
+
+    const SOUND: Broken = Broken {
+        read: |sheet| Counterpart.read(sheet),
+        settle: |sheet, table| Counterpart.settle(sheet, table),
+        block: |sheet, block, buffer| Counterpart.block(sheet, block, buffer),
+        line: |closed, line, marks| Counterpart.line(closed, line, marks),
+        close: |sheet, closed, marks, groups| Counterpart.close(sheet, closed, marks, groups),
+    };
+
+    impl Calls for Broken {
+        fn read(&self, sheet: &[u8]) -> u64 {
+            (self.read)(sheet)
+        }
+        fn settle(&self, sheet: &[u8], table: &mut [u64]) -> u64 {
+            (self.settle)(sheet, table)
+        }
+        fn block(&self, sheet: &[u8], block: u32, buffer: &mut [u8]) -> u64 {
+            (self.block)(sheet, block, buffer)
+        }
+        fn line(&self, closed: u32, line: &[u8], marks: &mut [u8]) -> u32 {
+            (self.line)(closed, line, marks)
+        }
+        fn close(&self, sheet: &[u8], closed: u32, marks: &[u8], groups: &mut [u64]) -> u32 {
+            (self.close)(sheet, closed, marks, groups)
+        }
+    }
+
+    #[track_caller]
+    fn is_caught(broken: Broken, kind: Kind, shown: &str) {
+        let (tally, text) = outcome(&broken);
+        assert!(tally.failed.contains(&kind), "{kind} not caught\n{text}");
+        assert!(text.contains(shown), "{text}");
+    }
+
+    #[test]
+    fn a_reader_that_takes_8_for_9_is_caught() {
+        let read = |sheet: &[u8]| match Counterpart.read(sheet) {
+            answer if answer >> 16 == 9 => answer - 65_536,
+            answer => answer,
+        };
+        is_caught(Broken { read, ..SOUND }, "read: 9 group twice", "difference in read: 9");
+    }
+
+    #[test]
+    fn settling_that_counts_a_pass_too_few_is_caught_with_the_smallest_sheet() {
+        let settle = |sheet: &[u8], table: &mut [u64]| match Counterpart.settle(sheet, table) {
+            answer if answer > 0 && answer < 65_536 => answer - 1,
+            answer => answer,
+        };
+        is_caught(Broken { settle, ..SOUND }, "settle: open marks and no counter", "\n   1   1   1   0\n   2   1   0   1   1\n");
+    }
+
+    #[test]
+    fn a_byte_written_past_the_block_is_caught() {
+        let block = |sheet: &[u8], block, buffer: &mut [u8]| {
+            let answer = Counterpart.block(sheet, block, buffer);
+            if let Some(byte) = buffer.get_mut(answer as usize) {
+                *byte = 0;
+            }
+            answer
+        };
+        is_caught(Broken { block, ..SOUND }, "block: buffer longer", "block 0");
+    }
+
+    #[test]
+    fn a_refused_line_that_leaves_a_mark_is_caught() {
+        let line = |closed, line: &[u8], marks: &mut [u8]| {
+            let answer = Counterpart.line(closed, line, marks);
+            if answer / 2 == 12 && !marks.is_empty() {
+                marks[0] = 1;
+            }
+            answer
+        };
+        is_caught(Broken { line, ..SOUND }, "line: 12 said in this line", "difference in line: 12 said in this line");
+    }
+
+    #[test]
+    fn closing_that_forgets_the_clauses_is_caught() {
+        let close = |sheet: &[u8], closed, marks: &[u8], groups: &mut [u64]| match Counterpart.close(sheet, closed, marks, groups) {
+            28 => 0,
+            answer => answer,
+        };
+        is_caught(Broken { close, ..SOUND }, "close: 28 clause false", "close, closed true");
+    }
+}

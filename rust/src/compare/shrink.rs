@@ -1,0 +1,239 @@
+//! A greedy shrinker: makes a failing case smaller as long as it fails.
+use super::case::Case;
+use crate::model::{Group, Model};
+use crate::sheet;
+
+pub fn shrink(case: Case, fails: &dyn Fn(&Case) -> bool) -> Case {
+    let mut shrinker = Shrinker { best: case, fails };
+    while shrinker.sweep() {}
+    shrinker.best
+}
+
+struct Shrinker<'a> {
+    best: Case,
+    fails: &'a dyn Fn(&Case) -> bool,
+}
+
+impl Shrinker<'_> {
+    /// Keeps a candidate that still fails.
+    fn attempt(&mut self, candidate: Case) -> bool {
+        let fails = (self.fails)(&candidate);
+        if fails {
+            self.best = candidate;
+        }
+        fails
+    }
+
+    fn attempt_model(&mut self, model: &Model) -> bool {
+        self.attempt(self.best.with_sheet(sheet::write(model)))
+    }
+
+    /// The best case's model, where its sheet has one.
+    fn model(&self) -> Option<Model> {
+        sheet::read(self.best.sheet()?).ok()
+    }
+
+    /// Tries every way once; whether one of them worked.
+    fn sweep(&mut self) -> bool {
+        let mut smaller = self.sweep_parts();
+        while self.model().is_some() && self.sweep_model() {
+            smaller = true;
+        }
+        if self.model().is_none() && self.best.sheet().is_some() {
+            smaller |= self.sweep_text();
+        }
+        smaller
+    }
+
+    fn sweep_model(&mut self) -> bool {
+        let many = |shrinker: &Self, count: fn(&Model) -> usize| shrinker.model().map_or(0, |model| count(&model));
+        let mut smaller = false;
+        for index in (0..many(self, |model| model.constraints.len())).rev() {
+            smaller |= self.without_line(index);
+        }
+        for index in (0..many(self, |model| model.groups.len())).rev() {
+            smaller |= self.without_group(index);
+        }
+        for entrant in (0..many(self, |model| model.entrants as usize)).rev() {
+            smaller |= self.without_entrant(entrant as u32);
+        }
+        for index in 0..many(self, |model| model.groups.len()) {
+            smaller |= self.looser_group(index);
+        }
+        smaller
+    }
+
+    fn without_line(&mut self, index: usize) -> bool {
+        let mut model = self.model().unwrap();
+        let line = model.constraints.remove(index);
+        if self.attempt_model(&model) {
+            return true;
+        }
+        if line.code == 6 && line.groups.len() > 3 {
+            let mut shorter = line.clone();
+            shorter.groups.pop();
+            model.constraints.insert(index, shorter);
+            return self.attempt_model(&model);
+        }
+        false
+    }
+
+    fn without_group(&mut self, index: usize) -> bool {
+        let mut model = self.model().unwrap();
+        if model.groups.len() == 1 || model.constraints.iter().any(|line| line.groups.contains(&index)) {
+            return false;
+        }
+        model.groups.remove(index);
+        let numbers = model.constraints.iter_mut().flat_map(|line| line.groups.iter_mut());
+        numbers.filter(|number| **number > index).for_each(|number| *number -= 1);
+        self.attempt_model(&model)
+    }
+
+    fn without_entrant(&mut self, entrant: u32) -> bool {
+        let mut model = self.model().unwrap();
+        if model.entrants == 1 {
+            return false;
+        }
+        model.entrants -= 1;
+        let below = (1 << entrant) - 1;
+        let squeeze = |set: u64| set & below | set >> 1 & !below;
+        for group in &mut model.groups {
+            group.fixed = squeeze(group.fixed);
+            group.possible = squeeze(group.possible);
+            group.high = group.high.min(model.entrants);
+            group.low = group.low.min(group.high);
+        }
+        self.attempt_model(&model)
+    }
+
+    /// The group without limits and marks, or with one of them fewer.
+    fn looser_group(&mut self, index: usize) -> bool {
+        let model = self.model().unwrap();
+        let (group, everyone) = (model.groups[index], model.everyone());
+        let mut ways =
+            vec![Group { fixed: 0, possible: everyone, low: 0, high: model.entrants }, Group { low: 0, ..group }, Group { high: model.entrants, ..group }];
+        for bit in (0..model.entrants).map(|e| 1 << e) {
+            ways.push(Group { fixed: group.fixed & !bit, possible: group.possible | bit, ..group });
+        }
+        ways.into_iter().any(|way| {
+            let mut looser = model.clone();
+            looser.groups[index] = way;
+            way != group && self.attempt_model(&looser)
+        })
+    }
+
+    /// Lines, then fields, then bytes of a sheet that is no sheet.
+    fn sweep_text(&mut self) -> bool {
+        let mut smaller = false;
+        for width in [usize::MAX, 4, 1] {
+            let mut end = self.best.sheet().unwrap().len();
+            while end > 0 {
+                let sheet = self.best.sheet().unwrap();
+                let line_start = sheet[..end - 1].iter().rposition(|&byte| byte == b'\n').map_or(0, |at| at + 1);
+                let start = if width == usize::MAX { line_start } else { end.saturating_sub(width) };
+                let shorter = [&sheet[..start], &sheet[end..]].concat();
+                smaller |= self.attempt(self.best.with_sheet(shorter));
+                end = start;
+            }
+        }
+        smaller
+    }
+
+    /// What is not the sheet: lines, their bytes, the marks.
+    fn sweep_parts(&mut self) -> bool {
+        let mut smaller = false;
+        for index in (0..self.lines().len()).rev() {
+            let mut lines = self.lines();
+            lines.remove(index);
+            smaller |= self.attempt_lines(lines);
+        }
+        for index in 0..self.lines().len() {
+            smaller |= self.shorter_line(index);
+        }
+        while self.fewer_marks() {
+            smaller = true;
+        }
+        smaller
+    }
+
+    /// The line without one of its words, or else without one of its bytes.
+    fn shorter_line(&mut self, index: usize) -> bool {
+        let mut smaller = false;
+        for whole_words in [true, false] {
+            let mut end = self.lines()[index].len();
+            while end > 0 {
+                let mut lines = self.lines();
+                let line = &mut lines[index];
+                let start = if whole_words { line[..end].iter().rposition(|&byte| byte == b' ').unwrap_or(0) } else { end - 1 };
+                line.drain(start..end);
+                smaller |= self.attempt_lines(lines);
+                end = start;
+            }
+        }
+        smaller
+    }
+
+    fn lines(&self) -> Vec<Vec<u8>> {
+        match &self.best {
+            Case::Lines { lines, .. } => lines.clone(),
+            _ => Vec::new(),
+        }
+    }
+
+    fn attempt_lines(&mut self, new: Vec<Vec<u8>>) -> bool {
+        let mut candidate = self.best.clone();
+        if let Case::Lines { lines, .. } = &mut candidate {
+            *lines = new;
+        }
+        self.attempt(candidate)
+    }
+
+    fn fewer_marks(&mut self) -> bool {
+        let Case::Lines { marks, lines } = &self.best else { return false };
+        let shorter = |length: usize| Case::Lines { marks: marks[..length].to_vec(), lines: lines.clone() };
+        let candidates = match marks.len() {
+            0 => return false,
+            length => [shorter(length / 2), shorter(length - 1)],
+        };
+        candidates.into_iter().any(|candidate| self.attempt(candidate))
+    }
+}
+
+#[cfg(test)]
+mod tests {
+    use super::super::calls::{settled, Calls, Counterpart};
+    use super::*;
+
+    /// Whether some line is refused with 12.
+    fn says_twice(case: &Case) -> bool {
+        let Case::Lines { marks, lines } = case else { return false };
+        let mut marks = marks.clone();
+        lines.iter().any(|line| Counterpart.line(0, line, &mut marks) / 2 == 12)
+    }
+
+    #[test]
+    fn lines_shrink_to_the_words_that_matter() {
+        let lines = ["c solver", "v 1 2 3", "v 4", "v -5 -2 6 0"].map(|line| line.as_bytes().to_vec()).to_vec();
+        let Case::Lines { marks, lines } = shrink(Case::Lines { marks: vec![0; 9], lines }, &says_twice) else { panic!() };
+        assert_eq!((marks.len(), lines), (2, vec![b"v 2".to_vec(), b"v 2".to_vec()]));
+    }
+
+    fn contradicts(case: &Case) -> bool {
+        case.sheet().is_some_and(|sheet| settled(sheet) == Err(21))
+    }
+
+    #[test]
+    fn a_sheet_shrinks_to_what_contradicts() {
+        let sheet = "   1   3   4   2\n   2   1   0   3   1   2   0\n   2   2   1   2   1   0   1\n   2   3   0   1   1   1   1\n   2   4   2   2   1   1   1\n   3   2   1   2\n   3   4   3   1   4\n";
+        let smallest = shrink(Case::Read { sheet: sheet.as_bytes().to_vec() }, &contradicts);
+        let wanted = "   1   1   1   0\n   2   1   1   1   0\n";
+        assert_eq!(String::from_utf8_lossy(smallest.sheet().unwrap()), wanted);
+    }
+
+    #[test]
+    fn text_that_is_no_sheet_shrinks_by_lines_fields_and_bytes() {
+        let bad_length = |case: &Case| case.sheet().is_some_and(|sheet| Counterpart.read(sheet) >> 16 == 3);
+        let sheet = b"   1   3   2   1\n   2   1   1   1   1   1  1\n".to_vec();
+        assert_eq!(shrink(Case::Read { sheet }, &bad_length).sheet().unwrap(), b"\n");
+    }
+}

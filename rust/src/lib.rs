@@ -1,0 +1,13 @@
+//! Document 01 in plain Rust, written from the paper alone, to compare the proved code with.
+pub mod answer;
+pub mod clauses;
+pub mod close;
+pub mod compare;
+pub mod encode;
+pub mod listing;
+pub mod model;
+#[cfg(proved)]
+pub mod proved;
+pub mod refusal;
+pub mod settle;
+pub mod sheet;

@@ -1,0 +1,144 @@
+//! The listing: the clauses as text.
+use crate::encode::Encoding;
+use crate::refusal::{NO_BLOCK, SHORT_BUFFER};
+
+/// All blocks, from 0 up.
+pub fn listing(encoding: &Encoding) -> Vec<u8> {
+    let mut text = Vec::new();
+    for block in 0..=encoding.blocks() {
+        push_block(encoding, block, &mut text);
+    }
+    text
+}
+
+/// Writes one block into a lent buffer and gives its length; a refusal (23, 24) changes no byte.
+pub fn write_block(encoding: &Encoding, block: usize, buffer: &mut [u8]) -> Result<usize, u32> {
+    if block > encoding.blocks() {
+        return Err(NO_BLOCK);
+    }
+    let mut text = Vec::new();
+    push_block(encoding, block, &mut text);
+    buffer.get_mut(..text.len()).ok_or(SHORT_BUFFER)?.copy_from_slice(&text);
+    Ok(text.len())
+}
+
+fn push_block(encoding: &Encoding, block: usize, text: &mut Vec<u8>) {
+    if block == 0 {
+        push_header(encoding, text);
+    } else {
+        encoding.each_clause(block, &mut |clause| push_clause(clause, text));
+    }
+}
+
+fn push_header(encoding: &Encoding, text: &mut Vec<u8>) {
+    text.extend_from_slice(b"p cnf ");
+    push_number(encoding.variables as u32, text);
+    text.push(b' ');
+    push_number(encoding.clauses() as u32, text);
+    text.push(b'\n');
+}
+
+/// The longest clause: 17 literals of a sign, five digits and a space each, then `0` and the newline.
+const CLAUSE_BYTES: usize = 17 * 7 + 2;
+
+fn push_clause(clause: &[i32], text: &mut Vec<u8>) {
+    let mut bytes = [0; CLAUSE_BYTES];
+    let mut at = bytes.len() - 2;
+    bytes[at..].copy_from_slice(b"0\n");
+    for &literal in clause.iter().rev() {
+        at -= 1;
+        bytes[at] = b' ';
+        at = digits_before(literal.unsigned_abs(), at, &mut bytes);
+        if literal < 0 {
+            at -= 1;
+            bytes[at] = b'-';
+        }
+    }
+    text.extend_from_slice(&bytes[at..]);
+}
+
+fn push_number(number: u32, text: &mut Vec<u8>) {
+    let mut digits = [0; 10];
+    let start = digits_before(number, digits.len(), &mut digits);
+    text.extend_from_slice(&digits[start..]);
+}
+
+/// Writes the number in decimal so that it ends before `end`; gives where it starts.
+fn digits_before(mut number: u32, end: usize, bytes: &mut [u8]) -> usize {
+    let mut at = end;
+    loop {
+        at -= 1;
+        bytes[at] = b'0' + (number % 10) as u8;
+        number /= 10;
+        if number == 0 {
+            return at;
+        }
+    }
+}
+
+#[cfg(test)]
+mod tests {
+    use super::*;
+    use crate::model::{Constraint, Group, Model};
+    use crate::settle::settle;
+    use crate::sheet::read;
+
+    fn with<T>(sheet: &str, then: impl FnOnce(&Encoding) -> T) -> T {
+        then(&Encoding::of(&settle(read(sheet.as_bytes()).unwrap()).unwrap()))
+    }
+
+    const A: &str = "   1   3   2   1\n   2   1   1   1   1   1   1\n   2   2   0   3   1   1   0\n   3   2   1   2\n";
+
+    #[test]
+    fn example_a_is_the_papers_listing() {
+        let wanted = "p cnf 6 10\n1 2 -5 0\n-2 5 0\n1 -6 0\n-1 5 0\n2 -6 0\n-1 -2 6 0\n5 0\n-6 0\n-1 3 0\n-2 4 0\n";
+        assert_eq!(with(A, listing), wanted.as_bytes());
+    }
+
+    #[test]
+    fn example_e_has_no_variables() {
+        assert_eq!(with("   1   2   1   0\n   2   1   0   1   2   1\n", listing), b"p cnf 0 0\n");
+    }
+
+    #[test]
+    fn example_f_has_thirty_clauses() {
+        let mut sheet = "   1   2   6   3\n".to_string();
+        (1..=3).for_each(|g| sheet += &format!("   2{g:4}   1   1   1   1\n"));
+        (4..=6).for_each(|g| sheet += &format!("   2{g:4}   0   0   1   1\n"));
+        sheet += "   3   3   4   1   2\n   3   3   5   1   3\n   3   3   6   2   3\n";
+        with(&sheet, |encoding| {
+            assert_eq!(encoding.settled.passes(), 2);
+            let text = String::from_utf8(listing(encoding)).unwrap();
+            assert!(text.starts_with("p cnf 12 30\n"));
+            assert_eq!(text.lines().count(), 31);
+        });
+    }
+
+    #[test]
+    fn example_k_the_buffers_length() {
+        with(A, |encoding| {
+            let length = write_block(encoding, 1, &mut [0; 99]).unwrap();
+            assert_eq!(write_block(encoding, 1, &mut vec![7; length]), Ok(length));
+            let mut short = vec![7; length - 1];
+            assert_eq!(write_block(encoding, 1, &mut short), Err(24));
+            assert!(short.iter().all(|&byte| byte == 7));
+            assert_eq!(write_block(encoding, 2, &mut []), Ok(0));
+            assert_eq!(write_block(encoding, 4, &mut []), Err(23));
+        });
+    }
+
+    #[test]
+    fn the_largest_sheet() {
+        let group = Group { fixed: 0, possible: u32::MAX.into(), low: 1, high: 31 };
+        let line = |first: usize| Constraint { code: 6, groups: (first..first + 17).map(|group| group % 256).collect() };
+        let model = Model { entrants: 32, groups: vec![group; 256], constraints: (0..256).map(line).collect() };
+        assert_eq!(crate::sheet::write(&model).len(), crate::model::SHEET_BYTES);
+        let settled = settle(model).unwrap();
+        let encoding = Encoding::of(&settled);
+        let text = listing(&encoding);
+        assert!(text.starts_with(b"p cnf 49152 475648\n"));
+        assert_eq!(text.len(), 8_987_411);
+        let mut buffer = vec![0; 32_768];
+        assert!((0..=512).all(|block| write_block(&encoding, block, &mut buffer).is_ok()));
+    }
+}

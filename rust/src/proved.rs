@@ -1,0 +1,35 @@
+//! The proved code, through the static library of the crate `exports`: the only unsafe code here.
+use crate::compare::calls::Calls;
+
+extern "C" {
+    fn draw_read(sheet: *const u8, sheet_len: usize) -> u64;
+    fn draw_settle(sheet: *const u8, sheet_len: usize, table: *mut u64, table_len: usize) -> u64;
+    fn draw_block(sheet: *const u8, sheet_len: usize, block: u32, buffer: *mut u8, buffer_len: usize) -> u64;
+    fn draw_line(closed: u32, line: *const u8, line_len: usize, marks: *mut u8, marks_len: usize) -> u32;
+    fn draw_close(sheet: *const u8, sheet_len: usize, closed: u32, marks: *const u8, marks_len: usize, groups: *mut u64, groups_len: usize) -> u32;
+}
+
+pub struct Proved;
+
+// Each function asks nothing of its caller but slices that are slices.
+impl Calls for Proved {
+    fn read(&self, sheet: &[u8]) -> u64 {
+        unsafe { draw_read(sheet.as_ptr(), sheet.len()) }
+    }
+
+    fn settle(&self, sheet: &[u8], table: &mut [u64]) -> u64 {
+        unsafe { draw_settle(sheet.as_ptr(), sheet.len(), table.as_mut_ptr(), table.len()) }
+    }
+
+    fn block(&self, sheet: &[u8], block: u32, buffer: &mut [u8]) -> u64 {
+        unsafe { draw_block(sheet.as_ptr(), sheet.len(), block, buffer.as_mut_ptr(), buffer.len()) }
+    }
+
+    fn line(&self, closed: u32, line: &[u8], marks: &mut [u8]) -> u32 {
+        unsafe { draw_line(closed, line.as_ptr(), line.len(), marks.as_mut_ptr(), marks.len()) }
+    }
+
+    fn close(&self, sheet: &[u8], closed: u32, marks: &[u8], groups: &mut [u64]) -> u32 {
+        unsafe { draw_close(sheet.as_ptr(), sheet.len(), closed, marks.as_ptr(), marks.len(), groups.as_mut_ptr(), groups.len()) }
+    }
+}

@@ -1,0 +1,136 @@
+#!/usr/bin/env python3
+"""Writes the sheets of this folder: `make.py [FOLDER]`. Each function builds one kind of sheet in the paper's terms."""
+import itertools
+import pathlib
+import sys
+
+BARRED, OPEN, FIXED = 0, 1, 2
+WITHIN, BOTH, EITHER, LESS, UNION = 2, 3, 4, 5, 6
+
+
+class Sheet:
+    def __init__(self, entrants):
+        self.entrants, self.groups, self.lines = entrants, [], []
+
+    def group(self, low, high, fixed=(), barred=()):
+        """A new group; gives its number."""
+        mark = lambda e: FIXED if e in fixed else BARRED if e in barred else OPEN
+        self.groups.append([low, high] + [mark(e) for e in range(1, self.entrants + 1)])
+        return len(self.groups)
+
+    def line(self, code, *groups):
+        self.lines.append([code, len(groups) - 1, *groups] if code == UNION else [code, *groups])
+
+    def share(self, high, f, g):
+        """F and G share at most `high` entrants."""
+        self.line(BOTH, self.group(0, high), f, g)
+
+    def split(self, parts, low, high, **marks):
+        """The parts' union, of low to high entrants; where that is the sum of their sizes the parts are disjoint."""
+        whole = self.group(low, high, **marks)
+        self.line(UNION, whole, *parts)
+        return whole
+
+    def text(self):
+        rows = [[1, self.entrants, len(self.groups), len(self.lines)]]
+        rows += [[2, number, *group] for number, group in enumerate(self.groups, 1)]
+        rows += [[3, *line] for line in self.lines]
+        return "".join("".join(f"{field:4}" for field in row) + "\n" for row in rows)
+
+
+def golfers(tables, size, weeks):
+    """Social golfers: every week all entrants at tables of `size`, no two at one table twice.
+    The first week is fixed; those of its first table are at different tables later, so their places are fixed too."""
+    sheet = Sheet(tables * size)
+    season = []
+    for week in range(weeks):
+        places = [range(t * size + 1, (t + 1) * size + 1) if week == 0 else [t + 1] if t < size else [] for t in range(tables)]
+        season.append([sheet.group(size, size, fixed=places[t]) for t in range(tables)])
+    for week in season:
+        for f, g in itertools.combinations(week, 2):
+            sheet.share(0, f, g)
+    for one, other in itertools.combinations(season, 2):
+        for f, g in itertools.product(one, other):
+            sheet.share(1, f, g)
+    return sheet
+
+
+def bridge_season():
+    """Fourteen members, three evenings of three tables with two pairs each. No partners twice, no table that shares three members
+    with an earlier one, nobody sits out twice. 13 and 14 cannot come on the first evening, 2 on the third; 1 runs table 1; 3 and 4 play together once."""
+    sheet = Sheet(14)
+    away = [(13, 14), (), (2,)]
+    everyone = sheet.group(14, 14)
+    pairs, tables, out = [], [], []
+    for evening, absent in enumerate(away):
+        now = [sheet.group(2, 2, barred=absent, fixed=(3, 4) if (evening, p) == (1, 5) else ()) for p in range(6)]
+        seats = [sheet.group(4, 4, barred=absent, fixed=(1,) if t == 0 else ()) for t in range(3)]
+        for t, seat in enumerate(seats):
+            sheet.line(EITHER, seat, now[2 * t], now[2 * t + 1])
+        playing = sheet.split(now, 12, 12, barred=absent)
+        rest = sheet.group(2, 2)
+        sheet.line(LESS, rest, everyone, playing)
+        pairs.append(now)
+        tables.append(seats)
+        out.append(rest)
+    for f, g in itertools.combinations(out, 2):
+        sheet.share(0, f, g)
+    for (one, other), high in [(two, 1) for two in itertools.combinations(pairs, 2)] + [(two, 2) for two in itertools.combinations(tables, 2)]:
+        for f, g in itertools.product(one, other):
+            sheet.share(high, f, g)
+    return sheet
+
+
+def bridge_long_season():
+    """Fourteen members, four evenings of three tables, no partners twice; some are away, and 1 always sits in the first pair. It has 256 groups, as many as a sheet may."""
+    sheet = Sheet(14)
+    away = [(13, 14), (5,), (2, 9), (7,)]
+    pairs = []
+    for evening, absent in enumerate(away):
+        now = [sheet.group(2, 2, barred=absent, fixed=(1,) if p == 0 else ()) for p in range(6)]
+        for t in range(3):
+            sheet.line(EITHER, sheet.group(4, 4, barred=absent), now[2 * t], now[2 * t + 1])
+        sheet.split(now, 12, 12, barred=absent)
+        pairs.append(now)
+    for one, other in itertools.combinations(pairs, 2):
+        for f, g in itertools.product(one, other):
+            sheet.share(1, f, g)
+    return sheet
+
+
+def bridge_clash():
+    """One evening of three tables for thirteen members, two of them away: twelve cannot sit down. Counting this is the solver's task."""
+    sheet = Sheet(13)
+    tables = [sheet.group(4, 4, barred=(6, 11)) for _ in range(3)]
+    for f, g in itertools.combinations(tables, 2):
+        sheet.share(0, f, g)
+    return sheet
+
+
+def bridge_five_at_a_table():
+    """Five members promised to one table of four by way of two pairs and a guest: settling finds it."""
+    sheet = Sheet(8)
+    table = sheet.group(4, 4)
+    sheet.line(WITHIN, sheet.group(2, 2, fixed=(1, 2)), table)
+    sheet.line(WITHIN, sheet.group(2, 2, fixed=(3, 4)), table)
+    sheet.line(WITHIN, sheet.group(1, 1, fixed=(5,)), table)
+    return sheet
+
+
+SHEETS = {
+    "golf-3-3-4": (golfers(3, 3, 4), "draw"),
+    "golf-3-3-5": (golfers(3, 3, 5), "no draw"),
+    "golf-3-2-5": (golfers(3, 2, 5), "draw"),
+    "golf-3-2-6": (golfers(3, 2, 6), "no draw"),
+    "bridge-16": (golfers(4, 4, 5), "draw"),
+    "bridge-season": (bridge_season(), "draw"),
+    "bridge-long-season": (bridge_long_season(), "draw"),
+    "bridge-clash": (bridge_clash(), "no draw"),
+    "bridge-five-at-a-table": (bridge_five_at_a_table(), "no draw, settled out"),
+}
+
+if __name__ == "__main__":
+    folder = pathlib.Path(sys.argv[1] if len(sys.argv) > 1 else pathlib.Path(__file__).parent)
+    for name, (sheet, answer) in SHEETS.items():
+        (folder / f"{name}.sheet").write_text(sheet.text())
+        (folder / f"{name}.expected").write_text(answer + "\n")
