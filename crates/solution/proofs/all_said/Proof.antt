@@ -3,7 +3,7 @@ use Rattle.solution.proofs.Values.{is-said, unsaid-low, unsaid-high}
 use Rattle.model.proofs.Loops.{every-next, every-end}
 use mathlib.Core.Path.{_≡_, refl, sym, _∙_}
 use Prim.Native.Nat.{_≤_, _-_}
-use lib.ListN.{length, drop}
+use lib.ListN.{length, getD, drop}
 use Rattle.model.specs.Lists.{every}
 use Rattle.model.specs.Assignment.{isSaid}
 use native.Mathlib.Omega.{arith}
@@ -23,13 +23,13 @@ shared-slice-read-if1 : tie.Need-shared-slice-read-if1 Inv-loop μ-loop
 shared-slice-read-if1 c = omega arith
 
 returns : tie.Need-returns Inv-loop μ-loop
-returns c = sym ((c .before .before .before .loop .inv .1) ∙ every-next 0 isSaid (c .before .before .before .before .args .values .now) (c .before .before .before .loop .i) (omega arith) ∙ rw (unsaid-low _ (c .if1 .taken)))
+returns c = sym ((c .before .before .before .loop .inv .1) ∙ every-next 0 isSaid (c .before .before .before .before .args .values .now) (c .before .before .before .loop .i) (omega arith) ∙ rw (unsaid-low (getD (c .before .before .before .before .args .values .now) (c .before .before .before .loop .i) 0) (omega arith)))
 
 shared-slice-read-if2 : tie.Need-shared-slice-read-if2 Inv-loop μ-loop
 shared-slice-read-if2 c = omega arith
 
 returns-2 : tie.Need-returns-2 Inv-loop μ-loop
-returns-2 c = sym ((c .before .before .before .before .before .loop .inv .1) ∙ every-next 0 isSaid (c .before .before .before .before .before .before .args .values .now) (c .before .before .before .before .before .loop .i) (omega arith) ∙ rw (unsaid-high _ (c .if2 .taken)))
+returns-2 c = sym ((c .before .before .before .before .before .loop .inv .1) ∙ every-next 0 isSaid (c .before .before .before .before .before .before .args .values .now) (c .before .before .before .before .before .loop .i) (omega arith) ∙ rw (unsaid-high (getD (c .before .before .before .before .before .before .args .values .now) (c .before .before .before .before .before .loop .i) 0) (omega arith)))
 
 add-i : tie.Need-add-i Inv-loop μ-loop
 add-i c = omega arith
@@ -38,7 +38,7 @@ loop-less : tie.Need-loop-less Inv-loop μ-loop
 loop-less c = omega arith
 
 loop-again : tie.Need-loop-again Inv-loop μ-loop
-loop-again c = (omega arith, (c .before .before .before .before .before .loop .inv .1) ∙ every-next 0 isSaid (c .before .before .before .before .before .before .args .values .now) (c .before .before .before .before .before .loop .i) (omega arith) ∙ rw (is-said _ (c .before .before .if1 .left) (c .if2 .left)))
+loop-again c = (omega arith, (c .before .before .before .before .before .loop .inv .1) ∙ every-next 0 isSaid (c .before .before .before .before .before .before .args .values .now) (c .before .before .before .before .before .loop .i) (omega arith) ∙ rw (is-said (getD (c .before .before .before .before .before .before .args .values .now) (c .before .before .before .before .before .loop .i) 0) (omega arith) (omega arith)))
 
 returns-3 : tie.Need-returns-3 Inv-loop μ-loop
 returns-3 c = sym ((c .before .loop .inv .1) ∙ every-end isSaid (c .before .before .args .values .now) (c .before .loop .i) (omega arith))

@@ -3,6 +3,7 @@ use Rattle.solution.proofs.Closing.{few-entrants, few-groups, few-const
 use Rattle.model.specs.Close.{assignmentOf}
 use Rattle.model.specs.Model.{tableOf}
 use borrow.Author.Tests.{not-true, not-false}
+use native.Mathlib.Omega.{arith}
 use mathlib.Core.Path.{sym, _∙_}
 use borrow.Author.Needs.{needs}
 use Rattle.solution.proofs.close.Statement.{statement}
@@ -44,7 +45,7 @@ returns-3 c = let m = (c .before .before .before .before .before .before .before
     let values = (c .before .before .before .before .before .before .before .before .before .args .values .now) in
     let p = sym (c .before .before .before .before .before .before .before .in-range .ensures) ∙ not-false _ (c .before .before .before .before .before .before .if1 .left) in
     let f = fixpoint-is m p _ _ (c .before .before .before .before .before .is-fixpoint .ensures) (not-false _ (c .before .before .before .before .if2 .left)) in
-    close-26 m (c .before .before .before .before .before .before .before .before .before .args .r) values p f _ (c .refused3 .ensures) (c .before .before .variable-count .result) (c .before .before .variable-count .ensures) (c .before .if3 .taken)
+    close-26 m (c .before .before .before .before .before .before .before .before .before .args .r) values p f _ (c .refused3 .ensures) (c .before .before .variable-count .result) (c .before .before .variable-count .ensures) (λ e. omega arith)
 
 refused-requires-4 : tie.Need-refused-requires-4
 refused-requires-4 c κs = search needs
@@ -55,7 +56,7 @@ returns-4 c = let m = (c .before .before .before .before .before .before .before
     let values = (c .before .before .before .before .before .before .before .before .before .before .before .args .values .now) in
     let p = sym (c .before .before .before .before .before .before .before .before .before .in-range .ensures) ∙ not-false _ (c .before .before .before .before .before .before .before .before .if1 .left) in
     let f = fixpoint-is m p _ _ (c .before .before .before .before .before .before .before .is-fixpoint .ensures) (not-false _ (c .before .before .before .before .before .before .if2 .left)) in
-    close-27 m (c .before .before .before .before .before .before .before .before .before .before .before .args .r) values p f (c .before .before .before .before .variable-count .result) (c .before .before .before .before .variable-count .ensures) (c .before .before .before .if3 .left) _ (c .refused4 .ensures) (not-true _ (c .before .if4 .taken))
+    close-27 m (c .before .before .before .before .before .before .before .before .before .before .before .args .r) values p f (c .before .before .before .before .variable-count .result) (c .before .before .before .before .variable-count .ensures) (omega arith) _ (c .refused4 .ensures) (not-true _ (c .before .if4 .taken))
 
 all-said-requires : tie.Need-all-said-requires
 all-said-requires c κs = search needs
@@ -69,7 +70,7 @@ returns-5 c = let m = (c .before .before .before .before .before .before .before
     let values = (c .before .before .before .before .before .before .before .before .before .before .before .before .before .args .values .now) in
     let p = sym (c .before .before .before .before .before .before .before .before .before .before .before .in-range .ensures) ∙ not-false _ (c .before .before .before .before .before .before .before .before .before .before .if1 .left) in
     let f = fixpoint-is m p _ _ (c .before .before .before .before .before .before .before .before .before .is-fixpoint .ensures) (not-false _ (c .before .before .before .before .before .before .before .before .if2 .left)) in
-    close-27-unsaid m (c .before .before .before .before .before .before .before .before .before .before .before .before .before .args .r) values p f (c .before .before .before .before .before .before .variable-count .result) (c .before .before .before .before .before .before .variable-count .ensures) (c .before .before .before .before .before .if3 .left) (not-false _ (c .before .before .before .if4 .left)) _ (c .refused5 .ensures) _ (c .before .before .all-said .ensures) (not-true _ (c .before .if5 .taken))
+    close-27-unsaid m (c .before .before .before .before .before .before .before .before .before .before .before .before .before .args .r) values p f (c .before .before .before .before .before .before .variable-count .result) (c .before .before .before .before .before .before .variable-count .ensures) (omega arith) (not-false _ (c .before .before .before .if4 .left)) _ (c .refused5 .ensures) _ (c .before .before .all-said .ensures) (not-true _ (c .before .if5 .taken))
 
 words-requires : tie.Need-words-requires
 words-requires c κs = let m = (c .before .before .before .before .before .before .before .before .before .before .before .before .args .m) in
@@ -93,7 +94,7 @@ returns-6 c = let m = (c .before .before .before .before .before .before .before
     let p = sym (c .before .before .before .before .before .before .before .before .before .before .before .before .before .before .before .in-range .ensures) ∙ not-false _ (c .before .before .before .before .before .before .before .before .before .before .before .before .before .before .if1 .left) in
     let f = fixpoint-is m p _ _ (c .before .before .before .before .before .before .before .before .before .before .before .before .before .is-fixpoint .ensures) (not-false _ (c .before .before .before .before .before .before .before .before .before .before .before .before .if2 .left)) in
     let t = verdict-is m (assignmentOf values) (c .before .before .before .before .words .result) (c .before .before .before .before .words .ensures .1) p f (c .before .before .clauses-hold .ensures .0) _ _ (c .before .before .clauses-hold .ensures .1) (not-true _ (c .before .if6 .taken)) in
-    close-28 m (c .before .before .before .before .before .before .before .before .before .before .before .before .before .before .before .before .before .args .r) values p f (c .before .before .before .before .before .before .before .before .before .before .variable-count .result) (c .before .before .before .before .before .before .before .before .before .before .variable-count .ensures) (c .before .before .before .before .before .before .before .before .before .if3 .left) (not-false _ (c .before .before .before .before .before .before .before .if4 .left)) _ (c .before .before .before .before .before .before .all-said .ensures) (not-false _ (c .before .before .before .before .before .if5 .left)) _ (c .refused6 .ensures) t
+    close-28 m (c .before .before .before .before .before .before .before .before .before .before .before .before .before .before .before .before .before .args .r) values p f (c .before .before .before .before .before .before .before .before .before .before .variable-count .result) (c .before .before .before .before .before .before .before .before .before .before .variable-count .ensures) (omega arith) (not-false _ (c .before .before .before .before .before .before .before .if4 .left)) _ (c .before .before .before .before .before .before .all-said .ensures) (not-false _ (c .before .before .before .before .before .if5 .left)) _ (c .refused6 .ensures) t
 
 returns-7 : tie.Need-returns-7
 unfolding tableOf
@@ -102,7 +103,7 @@ returns-7 c = let m = (c .before .before .before .before .before .before .before
     let p = sym (c .before .before .before .before .before .before .before .before .before .before .before .before .before .before .in-range .ensures) ∙ not-false _ (c .before .before .before .before .before .before .before .before .before .before .before .before .before .if1 .left) in
     let f = fixpoint-is m p _ _ (c .before .before .before .before .before .before .before .before .before .before .before .before .is-fixpoint .ensures) (not-false _ (c .before .before .before .before .before .before .before .before .before .before .before .if2 .left)) in
     let t = verdict-is m (assignmentOf values) (c .before .before .before .words .result) (c .before .before .before .words .ensures .1) p f (c .before .clauses-hold .ensures .0) _ _ (c .before .clauses-hold .ensures .1) (not-false _ (c .if6 .left)) in
-    close-0 m (c .before .before .before .before .before .before .before .before .before .before .before .before .before .before .before .before .args .r) values p f (c .before .before .before .before .before .before .before .before .before .variable-count .result) (c .before .before .before .before .before .before .before .before .before .variable-count .ensures) (c .before .before .before .before .before .before .before .before .if3 .left) (not-false _ (c .before .before .before .before .before .before .if4 .left)) _ (c .before .before .before .before .before .all-said .ensures) (not-false _ (c .before .before .before .before .if5 .left)) _ (found-is m (assignmentOf values) (c .before .before .before .words .result) (c .before .before .before .words .ensures .1)) t
+    close-0 m (c .before .before .before .before .before .before .before .before .before .before .before .before .before .before .before .before .args .r) values p f (c .before .before .before .before .before .before .before .before .before .variable-count .result) (c .before .before .before .before .before .before .before .before .before .variable-count .ensures) (omega arith) (not-false _ (c .before .before .before .before .before .before .if4 .left)) _ (c .before .before .before .before .before .all-said .ensures) (not-false _ (c .before .before .before .before .if5 .left)) _ (found-is m (assignmentOf values) (c .before .before .before .words .result) (c .before .before .before .words .ensures .1)) t
 
 pub close-spec : {M : Type 1} → statement M
 close-spec =
