@@ -26,8 +26,9 @@ use model::Written;
 
 // ---- a clause
 
-// The decimal text of v.
-fn put_number(buf: &mut [u8], at: usize, v: u32) -> usize
+// The decimal text of v below 1,000.
+fn put_small(buf: &mut [u8], at: usize, v: u32) -> usize
+    requires { ⌜ v < 1000 ⌝ }
     requires { ⌜ at + length (decimal v) ≤ length (now buf) ⌝ }
     ensures { λ r. ⌜ Wrote (decimal v) at (now (buf .entry)) (now (buf .exit)) r ⌝ }
 {
@@ -35,9 +36,39 @@ fn put_number(buf: &mut [u8], at: usize, v: u32) -> usize
         buf[at] = 48 + (v % 10) as u8;
         return at + 1;
     }
-    let n = put_number(buf, at, v / 10);
-    buf[n] = 48 + (v % 10) as u8;
-    n + 1
+    let q = v / 10;
+    if q < 10 {
+        buf[at] = 48 + (q % 10) as u8;
+        let b = at + 1;
+        buf[b] = 48 + (v % 10) as u8;
+        return b + 1;
+    }
+    let p = q / 10;
+    buf[at] = 48 + (p % 10) as u8;
+    let b = at + 1;
+    buf[b] = 48 + (q % 10) as u8;
+    let c = b + 1;
+    buf[c] = 48 + (v % 10) as u8;
+    c + 1
+}
+
+// The decimal text of v, three digits at a time.
+fn put_number(buf: &mut [u8], at: usize, v: u32) -> usize
+    requires { ⌜ at + length (decimal v) ≤ length (now buf) ⌝ }
+    ensures { λ r. ⌜ Wrote (decimal v) at (now (buf .entry)) (now (buf .exit)) r ⌝ }
+{
+    if v < 1000 {
+        return put_small(buf, at, v);
+    }
+    let q = v / 10;
+    let p = q / 10;
+    let n = put_number(buf, at, p / 10);
+    buf[n] = 48 + (p % 10) as u8;
+    let b = n + 1;
+    buf[b] = 48 + (q % 10) as u8;
+    let c = b + 1;
+    buf[c] = 48 + (v % 10) as u8;
+    c + 1
 }
 
 // A number and a space.
