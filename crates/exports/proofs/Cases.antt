@@ -6,6 +6,7 @@ use Prim.Native.Nat.{ℕ, _*_, _≤_}
 use native.Mathlib.Omega.{arith}
 use borrow.Author.Tests.{ne-eqb, eqb-false}
 use lib.Dec.{eqb}
+use lib.ListN.{replicate}
 use Rattle.model.specs.declared.Group.{Group}
 use Rattle.model.specs.declared.Model.{Model}
 use Rattle.model.specs.declared.SheetRead.{SheetRead}
@@ -17,9 +18,10 @@ use Rattle.model.specs.Model.{tableOf, withTable, inRange}
 use Rattle.model.specs.Sheet.{readSheet}
 use Rattle.model.specs.Propagate.{Outcome, contradiction, fixpoint, outcome, refusedPropagation, propagatedAs, propagated}
 use Rattle.model.specs.Text.{writtenBlock, blockBuffer}
+use Rattle.model.specs.Close.{closed}
 use Rattle.model.proofs.Lists.{true-T}
 use Rattle.encoding_laws.proofs.Fixpoint.{in-range}
-use Rattle.exports.specs.Draw.{numbered, settledSheet, drawSettle, groupWords, laidIn, drawTable, sheetBlock, writtenNumber, drawBlock, drawBuffer}
+use Rattle.exports.specs.Draw.{numbered, settledSheet, drawSettle, groupWords, laidIn, drawTable, sheetBlock, writtenNumber, drawBlock, drawBuffer, readingOf, closedSheet}
 
 -- ---- the reader's refusal comes first
 
@@ -74,6 +76,10 @@ module _ (b : List ℕ) (p : Propagated) (e : p ≡ settledSheet b) where
     unfolding drawBuffer
     buffer-left block buffer = rw (← e, ne-eqb (p .refusal) 0 h)
 
+    pub closing-refused : (flag : ℕ) (values : List ℕ) → record { refusal = p .refusal; groups = replicate (limits .groups) 0 } ≡ closedSheet b flag values
+    unfolding closedSheet
+    closing-refused flag values = rw (← e, ne-eqb (p .refusal) 0 h)
+
   module _ (z : p .refusal ≡ 0) where
     pub few-groups : p .model .s ≤ limits .groups
     few-groups = rw e (few-settled b (rw e at z))
@@ -89,3 +95,7 @@ module _ (b : List ℕ) (p : Propagated) (e : p ≡ settledSheet b) where
     pub buffer-written : (block : ℕ) (buffer : List ℕ) → blockBuffer (p .model) block buffer ≡ drawBuffer b block buffer
     unfolding drawBuffer
     buffer-written block buffer = rw (← e, z)
+
+    pub closing : (flag : ℕ) (values : List ℕ) → closed (p .model) (readingOf flag) values ≡ closedSheet b flag values
+    unfolding closedSheet
+    closing flag values = rw (← e, z)

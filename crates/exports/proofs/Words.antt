@@ -6,10 +6,11 @@ use native.Mathlib.Numerals.{add-one}
 use native.Mathlib.Omega.{arith}
 use borrow.Author.Tests.{le-leb, lt-leb}
 use lib.ListN.{length, getD, take, drop, set, length-append, length-drop}
-use lib.Seq.{sets, sets-eq, take-suc, take-at, drop-append-add, drop-drop, length-take-le}
+use lib.Seq.{sets, sets-eq, take-suc, take-all, take-at, drop-append-add, drop-drop, length-take-le}
 use Rattle.model.specs.declared.Group.{Group}
 use Rattle.model.specs.Lists.{each}
-use Rattle.model.proofs.Lists.{each-append}
+use Rattle.model.specs.Limits.{limits}
+use Rattle.model.proofs.Lists.{each-append, seam-next}
 use Rattle.exports.specs.Draw.{groupWords, laidIn}
 
 -- words stored after others that stand at the front
@@ -85,3 +86,34 @@ laid k words slice h = rw (le-leb k (length slice) h)
 pub not-laid : (k : ℕ) (words slice : List ℕ) → length slice < k → slice ≡ laidIn k words slice
 unfolding laidIn
 not-laid k words slice h = rw (lt-leb k (length slice) h)
+
+-- ---- a copy, word by word
+
+-- a slice that held xs, after i of the words
+pub record Copying (words xs now : List ℕ) (i : ℕ) : Type 0 where
+  pub passed : i ≤ limits .groups
+  pub whole : length words ≡ limits .groups
+  pub room : limits .groups ≤ length xs
+  pub copied : now ≡ take i words ++ drop i xs
+
+module _ (words xs now : List ℕ) (i : ℕ) (c : Copying words xs now i) where
+  pub copying-length : length now ≡ length xs
+  copying-length =
+      ap length (c .copied)
+      ∙ omega (arith, length-append (take i words) (drop i xs), length-take-le i words (omega (arith, c .passed, c .whole)), length-drop i xs, c .passed, c .room)
+
+  pub copying-next : i < limits .groups → Copying words xs (set now i (getD words i 0)) (i + 1)
+  copying-next h = record {
+    passed = omega arith;
+    whole = c .whole;
+    room = c .room;
+    copied = rw (c .copied) (seam-next words xs i 0 (omega (arith, c .whole)) (omega (arith, c .room)));
+  }
+
+  pub copying-end : limits .groups ≤ i → now ≡ laidIn (limits .groups) words xs
+  copying-end h =
+      let e : i ≡ limits .groups = omega (arith, c .passed) in
+      c .copied
+      ∙ ap (λ (j : ℕ). take j words ++ drop j xs) e
+      ∙ ap (λ (l : List ℕ). l ++ drop (limits .groups) xs) (take-all (limits .groups) words (omega (arith, c .whole)))
+      ∙ laid (limits .groups) words xs (c .room)

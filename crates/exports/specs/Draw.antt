@@ -3,21 +3,24 @@ use Prim.Native.Nat.{ℕ, _+_, _*_}
 use mathlib.Core.Bool.{cond, not}
 use mathlib.Core.List.{List, [], _∷_, _++_}
 use lib.Dec.{leb, eqb}
-use lib.ListN.{length, drop}
+use lib.ListN.{length, drop, replicate}
 use Rattle.model.specs.declared.Group.{Group}
 use Rattle.model.specs.declared.Propagated.{Propagated}
 use Rattle.model.specs.declared.Written.{Written}
 use Rattle.model.specs.declared.Written.the-variants.{Refused}
 use Rattle.model.specs.declared.Reading.{Reading}
 use Rattle.model.specs.declared.LineRead.{LineRead}
+use Rattle.model.specs.declared.Closed.{Closed}
 use Rattle.model.specs.Lists.{each}
+use Rattle.model.specs.Limits.{limits}
 use Rattle.model.specs.Model.{tableOf}
 use Rattle.model.specs.Sheet.{readSheet}
 use Rattle.model.specs.Propagate.{propagated, refusedPropagation}
 use Rattle.model.specs.Text.{writtenBlock, blockBuffer, writtenRefusal, writtenLength}
 use Rattle.model.specs.Assignment.{lineRead}
+use Rattle.model.specs.Close.{closed}
 
--- a refusal and a number below 65,536
+-- a refusal and a line, or a refusal and passes, in one number
 abbrev pub numbered : ℕ → ℕ → ℕ
 numbered refusal k = refusal * 65536 + k
 
@@ -80,3 +83,17 @@ lineNumber r = r .refusal * 2 + cond (r .reading .closed) 1 0
 
 unfoldable pub drawLine : ℕ → List ℕ → List ℕ → ℕ
 drawLine closed line values = lineNumber (lineRead (readingOf closed) line values)
+
+-- ---- closing on the settled sheet
+
+unfoldable pub closedSheet : List ℕ → ℕ → List ℕ → Closed
+closedSheet sheet flag values =
+    let p = settledSheet sheet in
+    cond (eqb (p .refusal) 0) (closed (p .model) (readingOf flag) values)
+    (record { refusal = p .refusal; groups = replicate (limits .groups) 0 })
+
+unfoldable pub drawClose : List ℕ → ℕ → List ℕ → ℕ
+drawClose sheet flag values = closedSheet sheet flag values .refusal
+
+unfoldable pub drawGroups : List ℕ → ℕ → List ℕ → List ℕ → List ℕ
+drawGroups sheet flag values groups = laidIn (limits .groups) (closedSheet sheet flag values .groups) groups

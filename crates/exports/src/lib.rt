@@ -8,7 +8,8 @@ ghost use Rattle.model.specs.Lists.{each};
 ghost use Rattle.model.specs.Limits.{limits};
 ghost use Rattle.model.specs.Model.{tableOf};
 ghost use Rattle.model.specs.Assignment.{valuesAfter};
-ghost use Rattle.exports.specs.Draw.{numbered, drawRead, settledSheet, drawSettle, groupWords, laidIn, drawTable, writtenNumber, drawBlock, drawBuffer, readingOf, lineNumber, drawLine};
+ghost use Rattle.exports.specs.Draw.{numbered, drawRead, settledSheet, drawSettle, groupWords, laidIn, drawTable, writtenNumber, drawBlock, drawBuffer, readingOf, lineNumber, drawLine, closedSheet, drawClose, drawGroups};
+use model::Closed;
 use model::Group;
 use model::LineRead;
 use model::Model;
@@ -148,4 +149,48 @@ pub extern "C" fn draw_line(closed: u32, line: &[u8], values: &mut [u8]) -> u32
     };
     let r = assignment::read_line(before, line, values);
     line_number(r)
+}
+
+// Closing on the settled model of a sheet; or the refusal of the reader or of settling, and zeros.
+fn closed_sheet(sheet: &[u8], closed: u32, values: &[u8]) -> Closed
+    ensures { λ r. ⌜ r ≡ closedSheet (now (sheet .entry)) closed (now (values .entry)) ⌝ }
+{
+    let p = settled(sheet);
+    if p.refusal != 0 {
+        return Closed {
+            refusal: p.refusal,
+            groups: [0; Model::GROUPS],
+        };
+    }
+    let m = p.model;
+    let reading = Reading {
+        closed: closed != 0,
+    };
+    solution::close(m, reading, values)
+}
+
+// A word for each group, where the slice has room for them.
+fn put_words(words: [u64; Model::GROUPS], groups: &mut [u64])
+    ensures { λ r. ⌜ now (groups .exit) ≡ laidIn (limits .groups) words (now (groups .entry)) ⌝ }
+{
+    if groups.len() < Model::GROUPS {
+        return;
+    }
+    let mut i: usize = 0;
+    while i < Model::GROUPS {
+        groups[i] = words[i];
+        i += 1;
+    }
+}
+
+// Closing: the refusal, and the groups.
+#[no_mangle]
+pub extern "C" fn draw_close(sheet: &[u8], closed: u32, values: &[u8], groups: &mut [u64]) -> u32
+    ensures { λ r. ⌜ r ≡ drawClose (now (sheet .entry)) closed (now (values .entry)) ⌝ }
+    ensures { λ r. ⌜ now (groups .exit) ≡ drawGroups (now (sheet .entry)) closed (now (values .entry)) (now (groups .entry)) ⌝ }
+{
+    let a = closed_sheet(sheet, closed, values);
+    let words = a.groups;
+    put_words(words, groups);
+    a.refusal
 }
