@@ -1,5 +1,7 @@
 -- `draw_block` writes a block of the settled model, or hands on a refusal. Assumes nothing.
+use native.Mathlib.Omega.{arith}
 use mathlib.Core.Path.{ap, _∙_}
+use lib.ListN.{length}
 use Rattle.exports.specs.Draw.{writtenNumber}
 use Rattle.exports.proofs.Cases.{block-refused, buffer-left, block-written, buffer-written}
 use borrow.Author.Needs.{needs}
@@ -13,7 +15,7 @@ written-number-requires : tie.Need-written-number-requires
 written-number-requires c κs = search needs
 
 returns : tie.Need-returns
-returns c = (c .written-number .ensures ∙ block-refused _ _ (c .before .before .before .settled .ensures) (c .before .if1 .taken) _ _, buffer-left _ _ (c .before .before .before .settled .ensures) (c .before .if1 .taken) _ _)
+returns c = (omega (arith, c .written-number .ensures, block-refused _ _ (c .before .before .before .settled .ensures) (c .before .if1 .taken) (c .before .before .before .before .before .before .args .block) (length (c .before .before .before .before .before .before .args .buffer .now))), buffer-left _ _ (c .before .before .before .settled .ensures) (c .before .if1 .taken) _ _)
 
 write-block-requires : tie.Need-write-block-requires
 write-block-requires c κs = search needs
