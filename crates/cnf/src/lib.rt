@@ -6,6 +6,7 @@ ghost use lib.Dec.{T};
 ghost use Prim.Native.Nat.{ℕ, _+_, _-_, _≤_, _<_};
 ghost use lib.ListN.{length, take, drop, getD};
 ghost use Rattle.model.specs.Lists.{any, each, every, between, range, total};
+ghost use Rattle.model.specs.declared.Term.the-variants.{Fails};
 ghost use Rattle.model.specs.Limits.{limits};
 ghost use Rattle.model.specs.Clauses.{memberClauses};
 ghost use Rattle.model.specs.Totalizer.{oppositeTerm, holds, output, shape, rootOutput, up, down, totalizerClauses, treeOutputCount, treeClauseCount};
@@ -570,6 +571,24 @@ fn literal_term(ts: [Term; Model::MEMBERS], l: Literal) -> Term
     }
 }
 
+// Term i of clause j, which has k of them; past them a term that is false, which changes no clause.
+fn clause_term(
+    ts: [Term; Model::MEMBERS],
+    code: u32,
+    count: u32,
+    j: usize,
+    k: usize,
+    i: usize,
+) -> Term
+    requires { ⌜ Fitting code count × (k ≡ length (clauseOf code count j)) ⌝ }
+    ensures { λ r. ⌜ r ≡ getD (map (literalTerm ts) (clauseOf code count j)) i Fails ⌝ }
+{
+    if i < k {
+        return literal_term(ts, constraint::literal_at(code, count, j, i));
+    }
+    Term::Fails
+}
+
 // The terms of clause j.
 fn clause_terms(
     ts: [Term; Model::MEMBERS],
@@ -605,6 +624,12 @@ fn put_member_clause(
     ensures { λ r. ⌜ Wrote (memberClauseText ts code count j) at (now (buf .entry)) (now (buf .exit)) r ⌝ }
 {
     let k = constraint::literal_count(code, count, j);
+    if k <= 3 {
+        let x = clause_term(ts, code, count, j, k, 0);
+        let y = clause_term(ts, code, count, j, k, 1);
+        let z = clause_term(ts, code, count, j, k, 2);
+        return put_three(buf, at, x, y, z);
+    }
     let cs = clause_terms(ts, code, count, j);
     let n = put_clause(&mut buf[at..], cs, k);
     at + n
@@ -660,14 +685,28 @@ fn put_constraint(
 
 // ---- counting the clauses that are kept
 
+// Whether a term of clause j is true.
+fn clause_true(ts: [Term; Model::MEMBERS], code: u32, count: u32, j: usize) -> bool
+    requires { ⌜ Fitting code count ⌝ }
+    ensures { λ r. ⌜ r ≡ any holds (map (literalTerm ts) (clauseOf code count j)) ⌝ }
+{
+    let k = constraint::literal_count(code, count, j);
+    if k <= 3 {
+        let x = clause_term(ts, code, count, j, k, 0);
+        let y = clause_term(ts, code, count, j, k, 1);
+        let z = clause_term(ts, code, count, j, k, 2);
+        return one_true(x, y, z);
+    }
+    let cs = clause_terms(ts, code, count, j);
+    any_true(cs, k)
+}
+
 // 1 where clause j is kept, and 0 where it is left out.
 fn kept_count(ts: [Term; Model::MEMBERS], code: u32, count: u32, j: usize) -> u32
     requires { ⌜ Fitting code count ⌝ }
     ensures { λ r. ⌜ (r ≡ keptCount ts code count j) × (r ≤ 1) ⌝ }
 {
-    let k = constraint::literal_count(code, count, j);
-    let cs = clause_terms(ts, code, count, j);
-    if any_true(cs, k) {
+    if clause_true(ts, code, count, j) {
         return 0;
     }
     1
