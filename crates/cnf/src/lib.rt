@@ -13,11 +13,11 @@ ghost use Rattle.model.specs.Totalizer.{oppositeTerm, holds, output, shape, roo
 ghost use Rattle.model.specs.Cnf.{openCount, outputsOf, groupClauseCount, constraintClauses, firstVariable};
 ghost use Rattle.model.specs.Assignment.{variable};
 ghost use Rattle.model.specs.Model.{tableOf, constraintInRange};
-ghost use Rattle.model.specs.Text.{decimal, literalText, clauseText, headerText, blockText, writtenBlock, blockBuffer};
+ghost use Rattle.model.specs.Text.{decimal, literalText, clauseText, headerText, blockText, blockRefusal, writtenBlock, writtenRefusal, writtenLength, blockBuffer};
 ghost use Rattle.numbering.specs.Counter.{firstVariables, firstOutputs};
 ghost use Rattle.cnf.specs.Wrote.{Wrote};
 ghost use Rattle.cnf.specs.Run.{runOf, runBuffer};
-ghost use Rattle.cnf.specs.Parts.{spaced, termText, keptText, outputText, pairText, rowText, nodeText, treeText, signed, unitText, groupText, memberOf, memberTerm, smallMember, literalTerm, clauseOf, memberClauseText, entrantText, constraintText, keptCount, entrantCount, constraintCount, countsText, judgement, Small, Steady, Steadies, Fitting, Within, Settled};
+ghost use Rattle.cnf.specs.Parts.{spaced, termText, keptText, outputText, pairText, rowText, nodeText, treeText, signed, unitText, groupText, memberOf, memberTerm, smallMember, literalTerm, clauseOf, memberClauseText, entrantText, constraintText, keptCount, entrantCount, constraintCount, countsText, blockLength, judgement, Small, Steady, Steadies, Fitting, Within, Settled};
 use model::Constraint;
 use model::Group;
 use model::Literal;
@@ -938,6 +938,7 @@ fn write_settled(m: Model, b: u32, buf: &mut [u8]) -> Written
 pub fn write_block(m: Model, b: u32, buf: &mut [u8]) -> Written
     ensures { λ r. ⌜ r ≡ writtenBlock m b (length (now (buf .entry))) ⌝ }
     ensures { λ r. ⌜ now (buf .exit) ≡ blockBuffer m b (now (buf .entry)) ⌝ }
+    ensures { λ r. ⌜ (writtenRefusal r ≡ blockRefusal m b (length (now (buf .entry)))) × (writtenLength r ≡ blockLength m b (length (now (buf .entry)))) ⌝ }
 {
     let refusal = judged(m, b);
     if refusal != 0 {

@@ -27,7 +27,7 @@ same-length : tie.Need-same-length
 same-length c = search needs
 
 returns-2 : tie.Need-returns-2
-returns-2 c = (c .written-number2 .ensures ∙ ap writtenNumber (c .before .before .before .write-block .ensures .0) ∙ block-written _ _ (c .before .before .before .before .before .before .before .before .settled .ensures) (c .before .before .before .before .before .before .if1 .left) _ _, c .before .before .before .write-block .ensures .1 ∙ buffer-written _ _ (c .before .before .before .before .before .before .before .before .settled .ensures) (c .before .before .before .before .before .before .if1 .left) _ _)
+returns-2 c = (c .written-number2 .ensures ∙ ap writtenNumber (c .before .before .before .write-block .ensures .0) ∙ block-written _ _ (c .before .before .before .before .before .before .before .before .settled .ensures) (c .before .before .before .before .before .before .if1 .left) _ _, c .before .before .before .write-block .ensures .1 .0 ∙ buffer-written _ _ (c .before .before .before .before .before .before .before .before .settled .ensures) (c .before .before .before .before .before .before .if1 .left) _ _)
 
 pub draw-block-spec : {M : Type 1} → statement M
 draw-block-spec =
