@@ -3,10 +3,8 @@ use mathlib.Core.Path.{_≡_, refl, ap, sym, _∙_}
 use mathlib.Core.List.{List, [], _∷_, _++_, append-assoc, append-nil}
 use mathlib.Core.Bool.{Bool, true, false, _||_}
 use Prim.Native.Nat.{ℕ, zero, suc, _+_, _≤_, _<_}
-use lib.ListN.{length, length-append, take, drop, getD, take-append-drop}
-use lib.Seq.{take-suc}
+use lib.ListN.{length, length-append, take, getD}
 use native.Mathlib.Omega.{arith}
-use native.Mathlib.Numerals.{add-one}
 use Rattle.model.specs.declared.Literal.{Literal}
 use Rattle.model.specs.declared.Literal.the-variants.{Pos, Neg}
 use Rattle.model.specs.declared.Term.{Term}
@@ -14,7 +12,7 @@ use Rattle.model.specs.declared.Term.the-variants.{Holds, Fails, Open}
 use Rattle.model.specs.Lists.{any, each}
 use Rattle.model.specs.Totalizer.{holds, literals, keep}
 use Rattle.model.specs.Text.{decimal, literalText, clauseText}
-use Rattle.model.proofs.Lists.{each-append, any-append}
+use Rattle.model.proofs.Lists.{each-append}
 use Rattle.numbering.proofs.Arrays.{next-take}
 use Rattle.cnf.specs.Parts.{spaced, termText, keptText}
 

@@ -1,13 +1,13 @@
 -- What the entry answers: a refusal, or the block's text. Assumes nothing.
 use mathlib.Core.Path.{_≡_, refl, sym, ap, _∙_, subst}
 use mathlib.Core.Bool.{Bool, true, false, cond, not, _&&_}
-use mathlib.Core.List.{List, [], _∷_, _++_}
+use mathlib.Core.List.{List, _++_}
 use Prim.Native.Nat.{ℕ, zero, suc, _+_, _≤_, _<_}
 use native.Mathlib.Nat.{zero-add}
 use native.Mathlib.Omega.{arith}
 use borrow.Author.Tests.{lt-ltb, le-ltb, ne-eqb}
 use lib.Dec.{T, ltb, eqb, eqb·suc-zero, nltb→le}
-use lib.ListN.{length, take, drop}
+use lib.ListN.{length, drop}
 use Rattle.model.specs.declared.Model.{Model}
 use Rattle.model.specs.declared.Written.{Written}
 use Rattle.model.specs.declared.Written.the-variants.{Bytes, Refused}
@@ -17,7 +17,6 @@ use Rattle.model.specs.Model.{inRange}
 use Rattle.model.specs.Propagate.{isFixpoint}
 use Rattle.model.specs.Text.{blockText, hasEmptyClause, blockRefusal, writtenBlock, writtenRefusal, writtenLength, blockBuffer}
 use Rattle.model.proofs.Lists.{T-true, T-false, true-T}
-use Rattle.encoding_laws.proofs.Sized.{Sized}
 use Rattle.encoding_laws.proofs.Fixpoint.{in-range}
 use Rattle.encoding_laws.proofs.Nonempty.{no-empty-clause}
 use Rattle.cnf.specs.Wrote.{Wrote}

@@ -1,18 +1,13 @@
 -- Laws of a group's totalizer and of the sums over groups. Assumes nothing.
-use mathlib.Core.Path.{_≡_, refl, sym, ap, ap₂, _∙_}
-use mathlib.Core.Bool.{Bool, true, false, cond, _||_}
-use mathlib.Core.List.{List, [], _∷_, _++_, append-nil}
-use Prim.Native.Nat.{ℕ, zero, suc, _+_, _-_, _*_, _≤_, _<_}
-use native.Mathlib.Nat.{add-zero}
-use native.Mathlib.Numerals.{add-one}
+use mathlib.Core.Path.{_≡_, sym, ap, _∙_}
+use mathlib.Core.Bool.{Bool, true, false, cond}
+use mathlib.Core.List.{List, [], _∷_}
+use Prim.Native.Nat.{ℕ, _+_, _-_, _≤_, _<_}
 use native.Mathlib.Omega.{arith}
-use borrow.Author.Tests.{lt-ltb, le-ltb}
-use lib.Dec.{ltb}
 use lib.ListN.{length, getD, take, length-take}
 use lib.Seq.{getD-take}
 use Rattle.model.specs.declared.Group.{Group}
 use Rattle.model.specs.Lists.{each, total}
-use Rattle.model.specs.Words.{size}
 use Rattle.model.specs.Model.{zeroGroup}
 use Rattle.model.specs.Totalizer.{totalizerClauses, treeOutputCount, treeClauseCount}
 use Rattle.model.specs.Cnf.{openCount, atLeast, atMost, counted, outputsOf, groupClauseCount}

@@ -1,16 +1,14 @@
 -- A constraint's block over its members: its text, and how many clauses it has. Assumes nothing.
-use mathlib.Core.Path.{_≡_, refl, sym, ap, ap₂, _∙_}
-use mathlib.Core.Bool.{Bool, true, false, cond}
-use mathlib.Core.List.{List, [], _∷_, _++_, map}
-use Prim.Native.Nat.{ℕ, zero, suc, _+_, _-_, _≤_, _<_}
-use native.Mathlib.Nat.{zero-add}
+use mathlib.Core.Path.{_≡_, refl, sym, ap, _∙_}
+use mathlib.Core.List.{List, [], _∷_, map}
+use Prim.Native.Nat.{ℕ, _-_, _≤_, _<_}
 use native.Mathlib.Omega.{arith}
 use lib.ListN.{length, getD, take, length-take, length-map}
 use lib.Seq.{getD-take}
 use Rattle.model.specs.declared.Literal.{Literal}
 use Rattle.model.specs.declared.Literal.the-variants.{Pos, Neg}
 use Rattle.model.specs.declared.Term.{Term}
-use Rattle.model.specs.declared.Term.the-variants.{Holds, Fails, Open}
+use Rattle.model.specs.declared.Term.the-variants.{Holds}
 use Rattle.model.specs.declared.Group.{Group}
 use Rattle.model.specs.declared.Constraint.{Constraint}
 use Rattle.model.specs.Lists.{each, range}
@@ -20,7 +18,6 @@ use Rattle.model.specs.Cnf.{variableOf, openOf, membership, termOf, clausesAt, 
 use Rattle.model.specs.Assignment.{variable}
 use Rattle.model.specs.Text.{clauseText}
 use Rattle.model.proofs.Lists.{each-each, each-map, each-range-ext, getD-map-in, places, length-each, total-ext}
-use Rattle.cnf.specs.declared.Member.{Member}
 use Rattle.cnf.specs.Parts.{keptText, memberOf, memberTerm, literalTerm, clauseOf, memberClauseText, entrantText, constraintText, keptCount, entrantCount, constraintCount, Within}
 use Rattle.cnf.proofs.MemberTerms.{values-map}
 

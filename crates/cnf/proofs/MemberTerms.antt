@@ -1,17 +1,17 @@
 -- Laws of a constraint's terms: members, literals and the arrays that hold them. Assumes nothing.
 use mathlib.Core.Path.{_≡_, refl, sym, ap, ap₂, _∙_}
-use mathlib.Core.Bool.{Bool, true, false, cond}
-use mathlib.Core.List.{List, [], _∷_, _++_, map}
+use mathlib.Core.Bool.{true, false}
+use mathlib.Core.List.{List, [], _∷_, map}
 use Prim.Native.Nat.{ℕ, zero, suc, _+_, _-_, _*_, _/_, _%_, _^_, _≤_, _<_}
 use native.Mathlib.Nat.{one-mul, mod-lt, zero-add}
 use native.Mathlib.Numerals.{add-one}
 use native.Mathlib.Omega.{arith}
 use borrow.Author.Tests.{eq-eqb, ne-eqb}
-use lib.Dec.{T, ltb, ltb→lt}
+use lib.Dec.{T, ltb→lt}
 use lib.Bits.{bitAnd, bitXor}
 use lib.Count.{ones, ones-le}
 use lib.Pow.{shl-exact, pow-pos}
-use lib.ListN.{length, getD, set, take, length-take}
+use lib.ListN.{length, getD, take, length-take}
 use lib.Seq.{getD-take}
 use Rattle.model.specs.declared.Literal.{Literal}
 use Rattle.model.specs.declared.Literal.the-variants.{Pos, Neg}
@@ -19,17 +19,17 @@ use Rattle.model.specs.declared.Term.{Term}
 use Rattle.model.specs.declared.Term.the-variants.{Holds, Fails, Open}
 use Rattle.model.specs.declared.Group.{Group}
 use Rattle.encoding_laws.proofs.Members.{between-le}
-use Rattle.model.specs.Lists.{any, every, between, each, range, total}
+use Rattle.model.specs.Lists.{any, every, between, range, total}
 use Rattle.model.specs.Clauses.{memberClauses}
 use Rattle.model.specs.Totalizer.{oppositeTerm, holds, keep}
 use Rattle.model.specs.Model.{zeroGroup, groupAt}
-use Rattle.model.specs.Cnf.{openCount, firstVariable, firstOutput}
-use Rattle.model.specs.Words.{less, size, bit, has}
+use Rattle.model.specs.Cnf.{firstVariable, firstOutput}
+use Rattle.model.specs.Words.{less, bit, has}
 use Rattle.model.specs.Assignment.{variable}
 use Rattle.model.proofs.Words.{size-ones}
 use Rattle.model.proofs.Lists.{every-getD, each-range-ext, range-last, total-append}
 use Rattle.cnf.specs.declared.Member.{Member}
-use Rattle.cnf.specs.Parts.{keptText, memberOf, memberTerm, smallMember, literalTerm, clauseOf, memberClauseText, entrantText, keptCount, entrantCount, Steadies, Within}
+use Rattle.cnf.specs.Parts.{keptText, memberOf, memberTerm, smallMember, literalTerm, clauseOf, memberClauseText, entrantText, keptCount, entrantCount, Within}
 use Rattle.numbering.specs.Counter.{numbers, firstVariables, firstOutputs}
 use Rattle.model.specs.Limits.{limits}
 use Rattle.model.proofs.Lists.{getD-map-in, range-getD, range-length}

@@ -5,14 +5,12 @@ use Prim.Native.Nat.{ℕ, zero, suc, _+_, _/_, _%_, _≤_, _<_}
 use native.Mathlib.Omega.{arith}
 use native.Mathlib.Decide.{decLt}
 use borrow.Author.Tests.{lt-ltb, le-ltb}
-use lib.Dec.{ltb}
 use lib.ListN.{length, length-append}
 use Rattle.model.specs.declared.Model.{Model}
 use Rattle.model.specs.Model.{tableOf}
 use Rattle.model.specs.Cnf.{variableCount, clauseCount}
 use Rattle.model.specs.Text.{digits, decimal, headerText}
 use Rattle.cnf.specs.Parts.{spaced, countsText}
-use Rattle.encoding_laws.proofs.Decimal.{decimal-some}
 
 digits-small : (f v : ℕ) → v < 10 → digits (suc f) v ≡ (48 + v) ∷ []
 unfolding digits

@@ -1,13 +1,13 @@
 -- Laws of a run of blocks: its start, one block more, its two ends. Assumes nothing.
-use mathlib.Core.Path.{_≡_, refl, sym, ap, ap₂, _∙_, subst}
-use mathlib.Core.Bool.{Bool, true, false, cond}
+use mathlib.Core.Path.{_≡_, refl, sym, ap, ap₂, _∙_}
+use mathlib.Core.Bool.{cond}
 use mathlib.Core.List.{List, [], _++_}
 use Prim.Native.Nat.{ℕ, zero, suc, _+_, _-_, _≤_, _<_}
 use native.Mathlib.Nat.{zero-add}
 use native.Mathlib.Omega.{arith}
 use borrow.Author.Tests.{le-leb, lt-leb, ne-eqb}
-use lib.Dec.{leb, eqb}
-use lib.ListN.{length, take, drop, length-append}
+use lib.Dec.{eqb}
+use lib.ListN.{length, drop, length-append}
 use Rattle.model.specs.declared.Model.{Model}
 use Rattle.model.specs.Lists.{each, range}
 use Rattle.model.specs.Limits.{limits}

@@ -1,10 +1,9 @@
 -- What a settled model gives the writers: steady groups, constraints whose clauses fit, and each block's text. Assumes nothing.
 use mathlib.Core.Path.{_≡_, refl, sym, ap, _∙_, subst}
-use mathlib.Core.Bool.{Bool, true, false, cond, not, _&&_, _||_}
-use mathlib.Core.List.{List, [], _∷_, _++_, map}
-use Prim.Native.Nat.{ℕ, zero, suc, _+_, _-_, _*_, _^_, _≤_, _<_}
+use mathlib.Core.List.{List, [], _∷_, map}
+use Prim.Native.Nat.{ℕ, zero, suc, _+_, _-_, _≤_, _<_}
 use native.Mathlib.Omega.{arith}
-use lib.Dec.{T, ltb, lt→ltb, eqb·suc-zero}
+use lib.Dec.{T, lt→ltb, eqb·suc-zero}
 use lib.ListN.{length, getD, take, drop, length-take, length-append, length-map, take-append-drop}
 use lib.Seq.{getD-take}
 use Rattle.model.specs.declared.Literal.{Literal}
@@ -12,10 +11,10 @@ use Rattle.model.specs.declared.Literal.the-variants.{Pos, Neg}
 use Rattle.model.specs.declared.Group.{Group}
 use Rattle.model.specs.declared.Constraint.{Constraint}
 use Rattle.model.specs.declared.Model.{Model}
-use Rattle.model.specs.Lists.{every, each, range, total, between, distinct, isEmpty}
+use Rattle.model.specs.Lists.{every, each, range, total, between}
 use Rattle.model.specs.Limits.{limits}
 use Rattle.model.specs.Clauses.{memberCount, memberClauses, shortClauses, unionClauses, groupsOf}
-use Rattle.model.specs.Model.{zeroGroup, zeroConstraint, groupAt, tableOf, constraintsOf, codeInRange, constraintInRange, inRange}
+use Rattle.model.specs.Model.{zeroGroup, zeroConstraint, groupAt, tableOf, constraintsOf, constraintInRange, inRange}
 use Rattle.model.specs.Propagate.{isFixpoint}
 use Rattle.model.specs.Assignment.{variable}
 use Rattle.model.specs.Cnf.{openCount, openOf, outputsOf, variableCount, firstVariable, firstOutput, groupClauses, constraintClauses, blockClauses, groupClauseCount, clauseCount}
@@ -29,7 +28,7 @@ use Rattle.encoding_laws.proofs.Whole.{limits-of, open-lt}
 use Rattle.encoding_laws.proofs.Groups.{table-length, group-block, constraint-block}
 use Rattle.encoding_laws.proofs.Bounds.{variables-bound}
 use Rattle.encoding_laws.proofs.Members.{Clear, members-clear, code-six, count-in, member-count, groups-in}
-use Rattle.numbering.specs.Counter.{firstVariables, firstOutputs, numbers}
+use Rattle.numbering.specs.Counter.{firstVariables, firstOutputs}
 use Rattle.numbering.proofs.Arrays.{next-take}
 use Rattle.cnf.proofs.Numbers.{header-is}
 use Rattle.cnf.proofs.MemberTerms.{first-at, output-from}

@@ -1,6 +1,6 @@
 -- Laws of a totalizer's text: the node's clauses as rows, the tree from its halves, the units. Assumes nothing.
 use mathlib.Core.Path.{_≡_, refl, sym, ap, ap₂, _∙_}
-use mathlib.Core.Bool.{Bool, true, false, cond}
+use mathlib.Core.Bool.{Bool, true, false}
 use mathlib.Core.List.{List, [], _∷_, _++_, map, append-nil, append-assoc}
 use Prim.Native.Nat.{ℕ, zero, suc, _+_, _-_, _/_, _≤_, _<_}
 use native.Mathlib.Numerals.{add-one}
@@ -12,7 +12,7 @@ use Rattle.model.specs.declared.Literal.the-variants.{Pos, Neg}
 use Rattle.model.specs.declared.Term.{Term}
 use Rattle.model.specs.declared.Term.the-variants.{Fails, Open}
 use Rattle.model.specs.Lists.{each, range, every}
-use Rattle.model.specs.Totalizer.{Output, Shape, holds, keep, up, down, formed, putIn, nodeClauses, shape, leaves, outputs, rootOutput, treeClauses, unit, unitClauses, totalizerClauses, outputCountIn, treeOutputCount, clauseCountIn, treeClauseCount}
+use Rattle.model.specs.Totalizer.{Output, Shape, keep, up, down, formed, putIn, nodeClauses, shape, rootOutput, treeClauses, unit, unitClauses, totalizerClauses, treeOutputCount, clauseCountIn, treeClauseCount}
 use Rattle.model.specs.Text.{clauseText}
 use Rattle.model.proofs.Lists.{every-range, each-append, each-each, each-map, each-range-ext}
 use Rattle.encoding_laws.proofs.Totalizer.{tree-step, root-step, shape-one}

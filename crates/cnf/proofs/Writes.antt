@@ -1,17 +1,17 @@
 -- Laws of writes. Assumes nothing.
 use mathlib.Core.Path.{_≡_, refl, ap, sym, _∙_}
 use mathlib.Core.List.{List, [], _∷_, _++_, append-assoc, append-nil}
-use Prim.Native.Nat.{ℕ, zero, suc, _+_, _-_, _≤_, _<_}
-use native.Mathlib.Nat.{add-zero, zero-add, add-suc, add-assoc}
+use Prim.Native.Nat.{ℕ, suc, _+_, _-_, _≤_, _<_}
+use native.Mathlib.Nat.{add-zero, zero-add, add-assoc}
 use native.Mathlib.Omega.{arith}
 use native.Mathlib.Numerals.{add-one}
 use native.Mathlib.Decide.{le-ind}
-use lib.ListN.{length, take, drop, set, length-append, length-set, length-drop, length-take, take-append-drop, drop-of-length-le}
+use lib.ListN.{length, take, drop, set, length-append, length-drop, length-take, take-append-drop, drop-of-length-le}
 use borrow.Rule.Slice.PartMut.{putMid}
-use lib.Seq.{take-append-add, take-all, length-take-le, drop-at, take-at, drop-drop, drop-cons, set-split, set-at}
+use lib.Seq.{take-all, drop-at, take-at, drop-drop, set-split}
 use Rattle.model.specs.Lists.{each, range}
 use Rattle.model.proofs.Lists.{each-append, range-last}
-use Rattle.cnf.specs.Wrote.{Wrote, over}
+use Rattle.cnf.specs.Wrote.{Wrote}
 
 -- the length stays
 pub kept : {t xs ys : List ℕ} {a n : ℕ} → Wrote t a xs ys n → length ys ≡ length xs

@@ -1,5 +1,5 @@
 -- The parts that the block writer's functions write, as texts of the definitions' clauses. Assumes nothing.
-use Prim.Native.Nat.{ℕ, suc, _+_, _%_, _^_, _≤_, _<_}
+use Prim.Native.Nat.{ℕ, _+_, _%_, _^_, _≤_, _<_}
 use mathlib.Core.Path.{_≡_}
 use mathlib.Core.Bool.{Bool, true, false, cond, not}
 use mathlib.Core.List.{List, [], _∷_, _++_, map}
@@ -20,7 +20,7 @@ use Rattle.model.specs.Model.{zeroGroup, groupAt, inRange}
 use Rattle.model.specs.Propagate.{isFixpoint}
 use Rattle.encoding_laws.proofs.Sized.{Sized}
 use Rattle.model.specs.Cnf.{openCount, atLeast, atMost, counted, firstVariable}
-use Rattle.model.specs.Totalizer.{Output, oppositeTerm, keep, up, down, putIn, nodeClauses, shape, treeClauses, unit, totalizerClauses}
+use Rattle.model.specs.Totalizer.{Output, oppositeTerm, keep, up, down, putIn, shape, treeClauses, unit, totalizerClauses}
 use Rattle.model.specs.Text.{decimal, literalText, clauseText, blockText, blockRefusal}
 use Rattle.cnf.specs.declared.Node.{Node}
 use Rattle.cnf.specs.declared.Member.{Member}

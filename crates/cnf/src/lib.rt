@@ -1,16 +1,16 @@
 // The block writer: one block of the listing in a buffer of the caller's. The third step of the chain.
 ghost use mathlib.Core.Path.{_≡_};
 ghost use mathlib.Core.Bool.{true, false};
-ghost use mathlib.Core.List.{[], _∷_, _++_, map};
+ghost use mathlib.Core.List.{[], _∷_, map};
 ghost use lib.Dec.{T};
-ghost use Prim.Native.Nat.{ℕ, _+_, _-_, _≤_, _<_};
-ghost use lib.ListN.{length, take, drop, getD};
+ghost use Prim.Native.Nat.{_+_, _-_, _≤_, _<_};
+ghost use lib.ListN.{length, take, getD};
 ghost use Rattle.model.specs.Lists.{any, each, every, between, range, total};
 ghost use Rattle.model.specs.declared.Term.the-variants.{Fails};
 ghost use Rattle.model.specs.Limits.{limits};
 ghost use Rattle.model.specs.Clauses.{memberClauses};
 ghost use Rattle.model.specs.Totalizer.{oppositeTerm, holds, output, shape, rootOutput, up, down, totalizerClauses, treeOutputCount, treeClauseCount};
-ghost use Rattle.model.specs.Cnf.{openCount, outputsOf, groupClauseCount, constraintClauses, firstVariable};
+ghost use Rattle.model.specs.Cnf.{openCount, outputsOf, groupClauseCount, constraintClauses};
 ghost use Rattle.model.specs.Assignment.{variable};
 ghost use Rattle.model.specs.Model.{tableOf, constraintInRange};
 ghost use Rattle.model.specs.Text.{decimal, literalText, clauseText, headerText, blockText, blockRefusal, writtenBlock, writtenRefusal, writtenLength, blockBuffer};

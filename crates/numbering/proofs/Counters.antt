@@ -1,15 +1,14 @@
 -- Laws of a group's totalizer: m, L, U, and how many outputs. Assumes nothing.
-use mathlib.Core.Path.{_≡_, refl, sym, ap, _∙_}
-use mathlib.Core.Bool.{Bool, true, false, cond, _||_}
+use mathlib.Core.Path.{_≡_, ap, _∙_}
+use mathlib.Core.Bool.{Bool, true, false, _||_}
 use mathlib.Core.List.{List, [], _∷_}
 use Prim.Native.Nat.{ℕ, _+_, _-_, _≤_, _<_, min}
 use native.Mathlib.Omega.{arith}
 use borrow.Author.Tests.{lt-ltb, le-ltb}
-use lib.Dec.{T, ltb, eqb, leb, eqb→eq, leb→le}
+use lib.Dec.{ltb, eqb, leb, eqb→eq, leb→le}
 use lib.ListN.{getD, take}
 use Rattle.model.specs.declared.Group.{Group}
-use Rattle.model.specs.Lists.{range, every, total}
-use Rattle.model.specs.Words.{size}
+use Rattle.model.specs.Lists.{total}
 use Rattle.model.specs.Totalizer.{outputCountIn, treeOutputCount}
 use Rattle.model.specs.Cnf.{openCount, atLeast, atMost, counted, outputsOf, firstVariable, firstOutput}
 use Rattle.model.proofs.Lists.{every-range}

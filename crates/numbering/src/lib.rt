@@ -1,7 +1,7 @@
 // Which number each variable gets: the open entrants, group by group, then the totalizers' outputs. Read by the block writer and by closing.
 ghost use mathlib.Core.Path.{_≡_};
 ghost use mathlib.Core.Bool.{cond};
-ghost use Prim.Native.Nat.{ℕ, _-_, _≤_, min};
+ghost use Prim.Native.Nat.{_-_, _≤_, min};
 ghost use lib.ListN.{length, take};
 ghost use Rattle.model.specs.Lists.{total};
 ghost use Rattle.model.specs.Limits.{limits};

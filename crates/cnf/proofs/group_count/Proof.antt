@@ -2,7 +2,7 @@
 use mathlib.Core.Path.{sym, ap, _∙_}
 use Rattle.model.specs.Totalizer.{treeClauseCount}
 use Rattle.encoding_laws.proofs.Bounds.{small-tree}
-use Rattle.cnf.proofs.Groups.{none-clauses, some-clauses, group-bounds}
+use Rattle.cnf.proofs.Groups.{none-clauses, some-clauses}
 use Rattle.numbering.proofs.Counters.{counter-parts}
 use native.Mathlib.Omega.{arith}
 use borrow.Author.Tests.{not-true, not-false}

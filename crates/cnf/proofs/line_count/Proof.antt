@@ -1,9 +1,6 @@
 -- `line_count` is how many clauses a constraint has. Assumes nothing.
-use mathlib.Core.Path.{sym, ap, _∙_}
-use lib.ListN.{length}
-use Rattle.cnf.proofs.Writes.{same-text}
-use Rattle.cnf.proofs.Settled.{few-members, first-named, first-within, members-small, line-text, line-length, fits, few-clauses}
-use native.Mathlib.Omega.{arith}
+use mathlib.Core.Path.{_∙_}
+use Rattle.cnf.proofs.Settled.{few-members, first-named, first-within, members-small, line-length, fits, few-clauses}
 use borrow.Author.Needs.{needs}
 use Rattle.cnf.proofs.line_count.Statement.{statement}
 use Rattle.cnf.proofs.line_count.Tie as tie

@@ -1,6 +1,5 @@
 -- `one_true` is whether one of three terms is true. Assumes nothing.
 use mathlib.Core.Path.{sym, _∙_}
-use mathlib.Core.Bool.{Bool, true, false, _||_}
 use Rattle.cnf.proofs.Clauses.{last-of-three}
 use borrow.Author.Needs.{needs}
 use Rattle.cnf.proofs.one_true.Statement.{statement}

@@ -1,6 +1,6 @@
 -- `put_block` writes one block of a settled model. Assumes nothing.
 use mathlib.Core.List.{[]}
-use mathlib.Core.Path.{sym, ap, _∙_}
+use mathlib.Core.Path.{ap}
 use lib.ListN.{length}
 use Rattle.model.specs.Model.{zeroGroup, tableOf}
 use Rattle.cnf.proofs.Writes.{same-text}

@@ -1,7 +1,6 @@
 -- `put_counts` writes the header's line. Assumes nothing.
 use mathlib.Core.Path.{sym, _∙_}
 use lib.ListN.{length-set}
-use Rattle.cnf.specs.Parts.{countsText}
 use Rattle.cnf.proofs.Writes.{then, snoc, same-text}
 use Rattle.cnf.proofs.Numbers.{counts-text, counts-length}
 use native.Mathlib.Omega.{arith}

@@ -1,7 +1,7 @@
 -- `put_down` writes a node's down clause. Assumes nothing.
 use mathlib.Core.Path.{ap, _∙_}
 use lib.ListN.{length}
-use Rattle.model.specs.Totalizer.{oppositeTerm, down}
+use Rattle.model.specs.Totalizer.{oppositeTerm}
 use Rattle.cnf.proofs.Writes.{same-text}
 use Rattle.cnf.proofs.Nodes.{same-three, down-text}
 use native.Mathlib.Omega.{arith}

@@ -1,5 +1,5 @@
 -- `put_header` writes block 0. Assumes nothing.
-use mathlib.Core.Path.{sym, ap, _∙_}
+use mathlib.Core.Path.{ap}
 use lib.ListN.{length}
 use Rattle.model.specs.Model.{tableOf}
 use Rattle.cnf.proofs.Writes.{same-text}

@@ -1,8 +1,8 @@
 -- `put_line` writes a constraint's clauses. Assumes nothing.
-use mathlib.Core.Path.{sym, ap, _∙_}
+use mathlib.Core.Path.{ap}
 use lib.ListN.{length}
 use Rattle.cnf.proofs.Writes.{same-text}
-use Rattle.cnf.proofs.Settled.{few-members, first-named, first-within, members-small, line-text, line-length, fits, few-clauses}
+use Rattle.cnf.proofs.Settled.{few-members, first-named, first-within, members-small, line-text, fits}
 use native.Mathlib.Omega.{arith}
 use borrow.Author.Needs.{needs}
 use Rattle.cnf.proofs.put_line.Statement.{statement}

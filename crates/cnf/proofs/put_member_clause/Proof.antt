@@ -1,5 +1,5 @@
 -- `put_member_clause` writes a clause of a constraint in the rest of a buffer. Assumes nothing.
-use mathlib.Core.Path.{sym, ap, _∙_}
+use mathlib.Core.Path.{ap}
 use mathlib.Core.List.{map}
 use lib.ListN.{length, length-map}
 use Rattle.cnf.specs.Parts.{literalTerm, clauseOf, memberClauseText}

@@ -1,7 +1,7 @@
 -- `put_up` writes a node's up clause. Assumes nothing.
 use mathlib.Core.Path.{ap, _∙_}
 use lib.ListN.{length}
-use Rattle.model.specs.Totalizer.{oppositeTerm, up}
+use Rattle.model.specs.Totalizer.{oppositeTerm}
 use Rattle.cnf.proofs.Writes.{same-text}
 use Rattle.cnf.proofs.Nodes.{same-three, up-text}
 use native.Mathlib.Omega.{arith}

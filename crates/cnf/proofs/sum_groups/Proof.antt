@@ -1,7 +1,7 @@
 -- `sum_groups` adds up the clauses of the first groups. Assumes nothing.
 use mathlib.Core.Path.{_≡_, refl, ap, _∙_}
-use Prim.Native.Nat.{ℕ, _-_, _*_, _≤_, _<_}
-use lib.ListN.{length, take}
+use Prim.Native.Nat.{ℕ, _-_, _*_, _≤_}
+use lib.ListN.{take}
 use Rattle.model.specs.Lists.{total}
 use Rattle.model.specs.Model.{zeroGroup}
 use Rattle.model.specs.Cnf.{groupClauseCount}

@@ -2,10 +2,9 @@
 use Rattle.cnf.proofs.Settled.{lines-next, line-good}
 use mathlib.Core.Path.{_≡_, refl, ap, _∙_}
 use mathlib.Core.List.{[]}
-use Prim.Native.Nat.{ℕ, _-_, _*_, _≤_, _<_}
+use Prim.Native.Nat.{ℕ, _-_, _*_, _≤_}
 use lib.ListN.{length, take}
 use Rattle.model.specs.Lists.{total}
-use Rattle.model.specs.Model.{zeroConstraint}
 use Rattle.model.specs.Cnf.{constraintClauses}
 use native.Mathlib.Omega.{arith}
 use Rattle.cnf.proofs.sum_lines.Statement.{statement}

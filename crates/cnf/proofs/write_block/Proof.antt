@@ -1,8 +1,6 @@
 -- `write_block` judges, then writes. Assumes nothing.
-use mathlib.Core.Path.{sym, _∙_}
 use lib.ListN.{length}
 use Rattle.cnf.proofs.Entry.{written-refused, buffer-refused, fine, settled-of, written-means}
-use native.Mathlib.Omega.{arith}
 use borrow.Author.Needs.{needs}
 use Rattle.cnf.proofs.write_block.Statement.{statement}
 use Rattle.cnf.proofs.write_block.Tie as tie

@@ -1,5 +1,4 @@
 -- `write_run` writes block after block while there is room for any. Assumes nothing.
-use mathlib.Core.Path.{sym, _∙_}
 use Prim.Native.Nat.{_+_, _-_}
 use Rattle.model.specs.Model.{tableOf}
 use Rattle.encoding_laws.proofs.Bounds.{block-bound}
@@ -7,7 +6,6 @@ use Rattle.cnf.proofs.Writes.{kept}
 use Rattle.cnf.proofs.Runs.{Going, going-start, going-on, full-answer, full-buffer, last-answer, last-buffer}
 use Rattle.cnf.proofs.Settled.{groups-few, constraints-few}
 use native.Mathlib.Omega.{arith}
-use borrow.Author.Needs.{needs}
 use Rattle.cnf.proofs.write_run.Statement.{statement}
 use Rattle.cnf.proofs.write_run.Tie as tie
 

@@ -1,5 +1,4 @@
 -- `write_settled` writes a block into a buffer that holds it, and measures one that is short. Assumes nothing.
-use mathlib.Core.Path.{sym, _∙_}
 use Rattle.model.specs.Model.{tableOf}
 use Rattle.encoding_laws.proofs.Bounds.{block-bound}
 use Rattle.cnf.proofs.Entry.{too-short, short-buffer, long-enough, written-buffer}

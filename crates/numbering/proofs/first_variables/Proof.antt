@@ -1,15 +1,15 @@
 -- `first_variables` is the first variable of each group. Assumes nothing.
-use mathlib.Core.Path.{_≡_, refl, _∙_}
+use mathlib.Core.Path.{_≡_, refl}
 use mathlib.Core.List.{map}
 use Prim.Native.Nat.{_+_, _-_, _*_, _≤_}
 use lib.ListN.{length, take, length-set}
 use Rattle.model.specs.Lists.{total}
-use Rattle.numbering.specs.Counter.{numbers, firstVariables, firstOutputs}
+use Rattle.numbering.specs.Counter.{numbers, firstVariables}
 use Rattle.model.specs.Limits.{limits}
 use Rattle.model.specs.Model.{zeroGroup}
-use Rattle.model.specs.Cnf.{openCount, outputsOf, firstVariable, firstOutput}
+use Rattle.model.specs.Cnf.{openCount, firstVariable}
 use Rattle.numbering.proofs.Arrays.{fill-numbers, filled-numbers, total-step}
-use Rattle.numbering.proofs.Counters.{variable-at, output-at}
+use Rattle.numbering.proofs.Counters.{variable-at}
 use native.Mathlib.Omega.{arith}
 use Rattle.numbering.proofs.first_variables.Statement.{statement}
 use Rattle.numbering.proofs.first_variables.Tie as tie

@@ -1,6 +1,6 @@
 -- `total_open` adds up the open entrants. Assumes nothing.
 use mathlib.Core.Path.{_≡_, refl, _∙_}
-use Prim.Native.Nat.{_+_, _-_, _*_, _≤_}
+use Prim.Native.Nat.{_-_, _*_, _≤_}
 use lib.ListN.{take}
 use Rattle.model.specs.Lists.{total}
 use Rattle.model.specs.Model.{zeroGroup}
