@@ -1,6 +1,6 @@
 -- Laws of a group's totalizer and of the sums over groups. Assumes nothing.
 use mathlib.Core.Path.{_≡_, sym, ap, _∙_}
-use mathlib.Core.Bool.{Bool, true, false, cond}
+use mathlib.Core.Bool.{true, false}
 use mathlib.Core.List.{List, [], _∷_}
 use Prim.Native.Nat.{ℕ, _+_, _-_, _≤_, _<_}
 use native.Mathlib.Omega.{arith}
@@ -9,12 +9,11 @@ use lib.Seq.{getD-take}
 use Rattle.model.specs.declared.Group.{Group}
 use Rattle.model.specs.Lists.{each, total}
 use Rattle.model.specs.Model.{zeroGroup}
-use Rattle.model.specs.Totalizer.{totalizerClauses, treeOutputCount, treeClauseCount}
-use Rattle.model.specs.Cnf.{openCount, atLeast, atMost, counted, outputsOf, groupClauseCount}
+use Rattle.model.specs.Totalizer.{totalizerClauses, treeClauseCount}
+use Rattle.model.specs.Cnf.{openCount, atLeast, atMost, counted, groupClauseCount}
 use Rattle.model.specs.Text.{clauseText}
 use Rattle.model.proofs.Lists.{total-append, true-T}
 use Rattle.encoding_laws.proofs.Whole.{counted-pos}
-use Rattle.encoding_laws.proofs.Bounds.{small-tree}
 use Rattle.numbering.specs.declared.Counter.{Counter}
 use Rattle.numbering.specs.Counter.{counterOf}
 use Rattle.numbering.proofs.Arrays.{next-take}
@@ -51,19 +50,6 @@ module _ (g : Group) (r : Counter) (e : r ≡ counterOf g) where
   counter-text s h v o =
       let p = counter-parts g r e in
       rw (p .0, p .1, p .2) (sym (some-text g s (sym (p .3) ∙ h) v o))
-
--- ---- bounds
-
-pub group-bounds : (g : Group) → Steady g → (openCount g ≤ 32) × (outputsOf g ≤ 160) × (groupClauseCount g ≤ 1344)
-unfolding outputsOf groupClauseCount
-group-bounds g s = go (counted g)
-  where
-    go : (b : Bool) → (openCount g ≤ 32) × (cond b (treeOutputCount (openCount g)) 0 ≤ 160)
-        × (cond b (treeClauseCount (openCount g) + atLeast g + (openCount g - atMost g)) 0 ≤ 1344)
-    go true =
-        let t = small-tree (openCount g) (s .few) in
-        (s .few, t .0, omega (arith, t .1, s .few, s .low-high, s .high-open))
-    go false = (s .few, omega arith, omega arith)
 
 -- ---- one group more
 
