@@ -2,8 +2,8 @@
 use lib.ListN.{length-take}
 use native.Mathlib.Omega.{arith}
 use borrow.Author.Needs.{needs}
-use Rattle.read_solution.proofs.finish.Statement.{statement}
-use Rattle.read_solution.proofs.finish.Tie as tie
+use Rattle.lines.proofs.finish.Statement.{statement}
+use Rattle.lines.proofs.finish.Tie as tie
 
 returns : tie.Need-returns
 returns c = search needs

@@ -4,8 +4,8 @@ use Prim.Native.Nat.{_≤_, _-_}
 use mathlib.Core.Path.{_≡_, refl, _∙_}
 use native.Mathlib.Omega.{arith}
 use borrow.Author.Needs.{needs}
-use Rattle.read_solution.proofs.take_lines.Statement.{statement}
-use Rattle.read_solution.proofs.take_lines.Tie as tie
+use Rattle.lines.proofs.take_lines.Statement.{statement}
+use Rattle.lines.proofs.take_lines.Tie as tie
 
 abbrev Inv-loop : tie.InvT-loop
 Inv-loop s values₀ n state₀ at₀ values state at = (at ≤ length s) × (length values ≡ length values₀)

@@ -1,8 +1,8 @@
 -- `room` is as long as it says. Assumes nothing.
 use Prim.Native.Nat.{ℕ}
 use lib.ListN.{length-replicate}
-use Rattle.read_solution.proofs.room.Statement.{statement}
-use Rattle.read_solution.proofs.room.Tie as tie
+use Rattle.lines.proofs.room.Statement.{statement}
+use Rattle.lines.proofs.room.Tie as tie
 
 returns : tie.Need-returns
 returns c = length-replicate {0} {A = ℕ} 1048576 0

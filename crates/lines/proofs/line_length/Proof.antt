@@ -2,8 +2,8 @@
 use lib.ListN.{length}
 use Prim.Native.Nat.{_≤_, _-_}
 use native.Mathlib.Omega.{arith}
-use Rattle.read_solution.proofs.line_length.Statement.{statement}
-use Rattle.read_solution.proofs.line_length.Tie as tie
+use Rattle.lines.proofs.line_length.Statement.{statement}
+use Rattle.lines.proofs.line_length.Tie as tie
 
 abbrev Inv-loop : tie.InvT-loop
 Inv-loop s i₀ i = i ≤ length s

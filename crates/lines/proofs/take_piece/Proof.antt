@@ -2,8 +2,8 @@
 use lib.ListN.{length-take}
 use native.Mathlib.Omega.{arith}
 use borrow.Author.Needs.{needs}
-use Rattle.read_solution.proofs.take_piece.Statement.{statement}
-use Rattle.read_solution.proofs.take_piece.Tie as tie
+use Rattle.lines.proofs.take_piece.Statement.{statement}
+use Rattle.lines.proofs.take_piece.Tie as tie
 
 more-requires : tie.Need-more-requires
 more-requires c κs = search needs

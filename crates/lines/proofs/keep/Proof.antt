@@ -3,8 +3,8 @@ use lib.ListN.{length, length-set}
 use Prim.Native.Nat.{_≤_, _-_}
 use mathlib.Core.Path.{_≡_, refl}
 use native.Mathlib.Omega.{arith}
-use Rattle.read_solution.proofs.keep.Statement.{statement}
-use Rattle.read_solution.proofs.keep.Tie as tie
+use Rattle.lines.proofs.keep.Statement.{statement}
+use Rattle.lines.proofs.keep.Tie as tie
 
 abbrev Inv-loop : tie.InvT-loop
 Inv-loop space₀ from end i₀ j₀ space i j = (i ≤ j) × (j ≤ end) × (length space ≡ length space₀)
