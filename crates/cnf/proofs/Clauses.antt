@@ -86,3 +86,39 @@ live-length ts p = rw (live ts p) (simp length-append (omega arith))
 pub dead : (ts : List Term) → any holds ts ≡ true → keptText ts ≡ []
 unfolding keptText keep
 dead ts p = rw p
+
+-- ---- a clause of at most three terms, filled up with false ones
+
+pub past-end : (ts : List Term) (i : ℕ) → length ts ≤ i → Fails ≡ getD ts i Fails
+past-end [] i h = refl
+past-end (t ∷ ts) zero h = absurd (omega arith)
+past-end (t ∷ ts) (suc i) h = past-end ts i (omega arith)
+
+module _ where
+  abbrev filled : List Term → List Term
+  filled ts = getD ts 0 Fails ∷ getD ts 1 Fails ∷ getD ts 2 Fails ∷ []
+
+  pub filled-any : (ts : List Term) → length ts ≤ 3 → any holds (filled ts) ≡ any holds ts
+  filled-any [] h = refl
+  filled-any (x ∷ []) h = refl
+  filled-any (x ∷ y ∷ []) h = refl
+  filled-any (x ∷ y ∷ z ∷ []) h = refl
+  filled-any (x ∷ y ∷ z ∷ w ∷ ts) h = absurd (omega arith)
+
+  filled-literals : (ts : List Term) → length ts ≤ 3 → literals (filled ts) ≡ literals ts
+  filled-literals [] h = refl
+  filled-literals (x ∷ []) h = refl
+  filled-literals (x ∷ y ∷ []) h = refl
+  filled-literals (x ∷ y ∷ z ∷ []) h = refl
+  filled-literals (x ∷ y ∷ z ∷ w ∷ ts) h = absurd (omega arith)
+
+  pub filled-text : (ts : List Term) → length ts ≤ 3 → keptText (filled ts) ≡ keptText ts
+  unfolding keptText keep
+  filled-text ts h = rw (filled-any ts h, filled-literals ts h)
+
+  module _ (ts : List Term) (x y z : Term) (h : length ts ≤ 3) (p : x ≡ getD ts 0 Fails) (q : y ≡ getD ts 1 Fails) (r : z ≡ getD ts 2 Fails) where
+    pub three-any : any holds (x ∷ y ∷ z ∷ []) ≡ any holds ts
+    three-any = rw (p, q, r) (filled-any ts h)
+
+    pub three-kept : keptText (x ∷ y ∷ z ∷ []) ≡ keptText ts
+    three-kept = rw (p, q, r) (filled-text ts h)

@@ -6,7 +6,7 @@ use Prim.Native.Nat.{ℕ, zero, suc, _+_, _≤_, _<_}
 use native.Mathlib.Nat.{zero-add}
 use native.Mathlib.Omega.{arith}
 use borrow.Author.Tests.{lt-ltb, le-ltb, ne-eqb}
-use lib.Dec.{T, ltb, eqb, nltb→le}
+use lib.Dec.{T, ltb, eqb, eqb·suc-zero, nltb→le}
 use lib.ListN.{length, take, drop}
 use Rattle.model.specs.declared.Model.{Model}
 use Rattle.model.specs.declared.Written.{Written}
@@ -15,13 +15,13 @@ use Rattle.model.specs.Lists.{stop}
 use Rattle.model.specs.Limits.{limits}
 use Rattle.model.specs.Model.{inRange}
 use Rattle.model.specs.Propagate.{isFixpoint}
-use Rattle.model.specs.Text.{blockText, hasEmptyClause, blockRefusal, writtenBlock, blockBuffer}
+use Rattle.model.specs.Text.{blockText, hasEmptyClause, blockRefusal, writtenBlock, writtenRefusal, writtenLength, blockBuffer}
 use Rattle.model.proofs.Lists.{T-true, T-false, true-T}
 use Rattle.encoding_laws.proofs.Sized.{Sized}
 use Rattle.encoding_laws.proofs.Fixpoint.{in-range}
 use Rattle.encoding_laws.proofs.Nonempty.{no-empty-clause}
 use Rattle.cnf.specs.Wrote.{Wrote}
-use Rattle.cnf.specs.Parts.{judgement, Settled}
+use Rattle.cnf.specs.Parts.{judgement, blockLength, Settled}
 
 -- ---- what is judged first
 
@@ -144,3 +144,19 @@ module _ (m : Model) (g : Settled m) (b : ℕ) (h : b ≤ m .s + m .c) where
   written-buffer buf after n w =
       let l : length (blockText m b) ≤ length buf = omega (arith, w .next, w .inside) in
       rw (judged-24 (length buf), le-ltb (length buf) (length (blockText m b)) l) (w .bytes ∙ ap (λ (k : ℕ). blockText m b ++ drop k buf) (zero-add (length (blockText m b))))
+
+-- ---- the answer by the paper's number and value
+
+pub written-means : (m : Model) (b room : ℕ) (r : Written) → r ≡ writtenBlock m b room
+    → (writtenRefusal r ≡ blockRefusal m b room) × (writtenLength r ≡ blockLength m b room)
+unfolding writtenBlock blockLength
+written-means m b room r e = go (blockRefusal m b room) (e)
+  where
+    n : ℕ
+    n = length (blockText m b)
+
+    go : (x : ℕ) → r ≡ cond (eqb x 0) (Bytes n) (Refused x) → (writtenRefusal r ≡ x) × (writtenLength r ≡ cond (eqb x 0) n 0)
+    go zero q = (ap writtenRefusal q, ap writtenLength q)
+    go (suc x) q =
+        let p : r ≡ Refused (suc x) = rw (eqb·suc-zero x) at q in
+        (ap writtenRefusal p, ap writtenLength p ∙ rw (eqb·suc-zero x))

@@ -119,18 +119,14 @@ number-at ids s k i t h l =
 
 -- ---- counting the clauses that are kept
 
-module _ (ts cs : List Term) (code count j k : ℕ) (q : k ≡ length (clauseOf code count j))
-    (h : take (length (clauseOf code count j)) cs ≡ map (literalTerm ts) (clauseOf code count j)) where
-  same-terms : take k cs ≡ map (literalTerm ts) (clauseOf code count j)
-  same-terms = ap (λ (n : ℕ). take n cs) q ∙ h
-
-  pub left-out : any holds (take k cs) ≡ true → 0 ≡ keptCount ts code count j
+module _ (ts : List Term) (code count j : ℕ) where
+  pub left-out : any holds (map (literalTerm ts) (clauseOf code count j)) ≡ true → 0 ≡ keptCount ts code count j
   unfolding keptCount keep
-  left-out e = rw (sym (ap (any holds) same-terms) ∙ e)
+  left-out e = rw e
 
-  pub counted-once : any holds (take k cs) ≡ false → 1 ≡ keptCount ts code count j
+  pub counted-once : any holds (map (literalTerm ts) (clauseOf code count j)) ≡ false → 1 ≡ keptCount ts code count j
   unfolding keptCount keep
-  counted-once e = rw (sym (ap (any holds) same-terms) ∙ e)
+  counted-once e = rw e
 
 pub total-last : (f : ℕ → ℕ) (k : ℕ) → total f (range 0 (k + 1)) ≡ total f (range 0 k) + f k
 total-last f k =

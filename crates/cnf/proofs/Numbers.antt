@@ -38,8 +38,38 @@ pub decimal-more : (v : ℕ) → 10 ≤ v → decimal v ≡ decimal (v / 10) ++ 
 unfolding decimal
 decimal-more v h = digits-more v v h ∙ ap (λ (l : List ℕ). l ++ (48 + v % 10) ∷ []) (fuel v (suc (v / 10)) (v / 10) (omega arith) (omega arith))
 
-pub decimal-length : (v : ℕ) → 10 ≤ v → length (decimal v) ≡ length (decimal (v / 10)) + 1
+abbrev digit : ℕ → List ℕ
+digit v = (48 + v % 10) ∷ []
+
+decimal-length : (v : ℕ) → 10 ≤ v → length (decimal v) ≡ length (decimal (v / 10)) + 1
 decimal-length v h = rw (decimal-more v h) (rw length-append)
+
+-- two and three digits, and three more
+
+pub two-digits : (v : ℕ) → 10 ≤ v → v / 10 < 10 → decimal v ≡ digit (v / 10) ++ digit v
+two-digits v h k = decimal-more v h ∙ ap (λ (l : List ℕ). l ++ digit v) (decimal-small (v / 10) k)
+
+pub three-digits : (v : ℕ) → 10 ≤ v / 10 → v / 10 / 10 < 10 → decimal v ≡ (digit (v / 10 / 10) ++ digit (v / 10)) ++ digit v
+three-digits v h k = decimal-more v (omega arith) ∙ ap (λ (l : List ℕ). l ++ digit v) (two-digits (v / 10) h k)
+
+pub more-digits : (v : ℕ) → 1000 ≤ v → decimal v ≡ ((decimal (v / 10 / 10 / 10) ++ digit (v / 10 / 10)) ++ digit (v / 10)) ++ digit v
+more-digits v h =
+    decimal-more v (omega arith)
+    ∙ ap (λ (l : List ℕ). l ++ digit v) (decimal-more (v / 10) (omega arith)
+    ∙ ap (λ (l : List ℕ). l ++ digit (v / 10)) (decimal-more (v / 10 / 10) (omega arith)))
+
+pub one-length : (v : ℕ) → v < 10 → length (decimal v) ≡ 1
+one-length v h = ap length (decimal-small v h)
+
+pub two-length : (v : ℕ) → 10 ≤ v → v / 10 < 10 → length (decimal v) ≡ 2
+two-length v h k = ap length (two-digits v h k)
+
+pub three-digits-length : (v : ℕ) → 10 ≤ v / 10 → v / 10 / 10 < 10 → length (decimal v) ≡ 3
+three-digits-length v h k = ap length (three-digits v h k)
+
+pub more-length : (v : ℕ) → 1000 ≤ v → length (decimal v) ≡ length (decimal (v / 10 / 10 / 10)) + 3
+more-length v h =
+    omega (arith, decimal-length v (omega arith), decimal-length (v / 10) (omega arith), decimal-length (v / 10 / 10) (omega arith))
 
 -- ---- the header's line
 

@@ -7,7 +7,7 @@ use Rattle.model.specs.declared.Literal.{Literal}
 use Rattle.model.specs.declared.Literal.the-variants.{Pos, Neg}
 use Rattle.model.specs.declared.Term.{Term}
 use Rattle.model.specs.declared.Term.the-variants.{Holds, Fails, Open}
-use lib.Dec.{T, ltb}
+use lib.Dec.{T, ltb, eqb}
 use lib.ListN.{length, getD}
 use Rattle.model.specs.declared.Group.{Group}
 use Rattle.model.specs.Lists.{each, range, total, stop}
@@ -21,7 +21,7 @@ use Rattle.model.specs.Propagate.{isFixpoint}
 use Rattle.encoding_laws.proofs.Sized.{Sized}
 use Rattle.model.specs.Cnf.{openCount, atLeast, atMost, counted, firstVariable}
 use Rattle.model.specs.Totalizer.{Output, oppositeTerm, keep, up, down, putIn, nodeClauses, shape, treeClauses, unit, totalizerClauses}
-use Rattle.model.specs.Text.{decimal, literalText, clauseText}
+use Rattle.model.specs.Text.{decimal, literalText, clauseText, blockText, blockRefusal}
 use Rattle.cnf.specs.declared.Node.{Node}
 use Rattle.cnf.specs.declared.Member.{Member}
 
@@ -140,6 +140,10 @@ pub record Small (t : Node) : Type 0 where
 -- `p cnf V C` and byte 10
 unfoldable pub countsText : ℕ → ℕ → List ℕ
 countsText v c = ((112 ∷ 32 ∷ 99 ∷ 110 ∷ 102 ∷ 32 ∷ []) ++ spaced v) ++ decimal c ++ (10 ∷ [])
+
+-- "A written block returns its length", a refused one none
+unfoldable pub blockLength : Model → ℕ → ℕ → ℕ
+blockLength m b room = cond (eqb (blockRefusal m b room) 0) (length (blockText m b)) 0
 
 -- the refusals that do not depend on the buffer
 unfoldable pub judgement : Model → ℕ → ℕ

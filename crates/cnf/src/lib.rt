@@ -6,17 +6,18 @@ ghost use lib.Dec.{T};
 ghost use Prim.Native.Nat.{ℕ, _+_, _-_, _≤_, _<_};
 ghost use lib.ListN.{length, take, drop, getD};
 ghost use Rattle.model.specs.Lists.{any, each, every, between, range, total};
+ghost use Rattle.model.specs.declared.Term.the-variants.{Fails};
 ghost use Rattle.model.specs.Limits.{limits};
 ghost use Rattle.model.specs.Clauses.{memberClauses};
 ghost use Rattle.model.specs.Totalizer.{oppositeTerm, holds, output, shape, rootOutput, up, down, totalizerClauses, treeOutputCount, treeClauseCount};
 ghost use Rattle.model.specs.Cnf.{openCount, outputsOf, groupClauseCount, constraintClauses, firstVariable};
 ghost use Rattle.model.specs.Assignment.{variable};
 ghost use Rattle.model.specs.Model.{tableOf, constraintInRange};
-ghost use Rattle.model.specs.Text.{decimal, literalText, clauseText, headerText, blockText, writtenBlock, blockBuffer};
+ghost use Rattle.model.specs.Text.{decimal, literalText, clauseText, headerText, blockText, blockRefusal, writtenBlock, writtenRefusal, writtenLength, blockBuffer};
 ghost use Rattle.numbering.specs.Counter.{firstVariables, firstOutputs};
 ghost use Rattle.cnf.specs.Wrote.{Wrote};
 ghost use Rattle.cnf.specs.Run.{runOf, runBuffer};
-ghost use Rattle.cnf.specs.Parts.{spaced, termText, keptText, outputText, pairText, rowText, nodeText, treeText, signed, unitText, groupText, memberOf, memberTerm, smallMember, literalTerm, clauseOf, memberClauseText, entrantText, constraintText, keptCount, entrantCount, constraintCount, countsText, judgement, Small, Steady, Steadies, Fitting, Within, Settled};
+ghost use Rattle.cnf.specs.Parts.{spaced, termText, keptText, outputText, pairText, rowText, nodeText, treeText, signed, unitText, groupText, memberOf, memberTerm, smallMember, literalTerm, clauseOf, memberClauseText, entrantText, constraintText, keptCount, entrantCount, constraintCount, countsText, blockLength, judgement, Small, Steady, Steadies, Fitting, Within, Settled};
 use model::Constraint;
 use model::Group;
 use model::Literal;
@@ -26,8 +27,9 @@ use model::Written;
 
 // ---- a clause
 
-// The decimal text of v.
-fn put_number(buf: &mut [u8], at: usize, v: u32) -> usize
+// The decimal text of v below 1,000.
+fn put_small(buf: &mut [u8], at: usize, v: u32) -> usize
+    requires { ⌜ v < 1000 ⌝ }
     requires { ⌜ at + length (decimal v) ≤ length (now buf) ⌝ }
     ensures { λ r. ⌜ Wrote (decimal v) at (now (buf .entry)) (now (buf .exit)) r ⌝ }
 {
@@ -35,9 +37,39 @@ fn put_number(buf: &mut [u8], at: usize, v: u32) -> usize
         buf[at] = 48 + (v % 10) as u8;
         return at + 1;
     }
-    let n = put_number(buf, at, v / 10);
-    buf[n] = 48 + (v % 10) as u8;
-    n + 1
+    let q = v / 10;
+    if q < 10 {
+        buf[at] = 48 + (q % 10) as u8;
+        let b = at + 1;
+        buf[b] = 48 + (v % 10) as u8;
+        return b + 1;
+    }
+    let p = q / 10;
+    buf[at] = 48 + (p % 10) as u8;
+    let b = at + 1;
+    buf[b] = 48 + (q % 10) as u8;
+    let c = b + 1;
+    buf[c] = 48 + (v % 10) as u8;
+    c + 1
+}
+
+// The decimal text of v, three digits at a time.
+fn put_number(buf: &mut [u8], at: usize, v: u32) -> usize
+    requires { ⌜ at + length (decimal v) ≤ length (now buf) ⌝ }
+    ensures { λ r. ⌜ Wrote (decimal v) at (now (buf .entry)) (now (buf .exit)) r ⌝ }
+{
+    if v < 1000 {
+        return put_small(buf, at, v);
+    }
+    let q = v / 10;
+    let p = q / 10;
+    let n = put_number(buf, at, p / 10);
+    buf[n] = 48 + (p % 10) as u8;
+    let b = n + 1;
+    buf[b] = 48 + (q % 10) as u8;
+    let c = b + 1;
+    buf[c] = 48 + (v % 10) as u8;
+    c + 1
 }
 
 // A number and a space.
@@ -539,6 +571,24 @@ fn literal_term(ts: [Term; Model::MEMBERS], l: Literal) -> Term
     }
 }
 
+// Term i of clause j, which has k of them; past them a term that is false, which changes no clause.
+fn clause_term(
+    ts: [Term; Model::MEMBERS],
+    code: u32,
+    count: u32,
+    j: usize,
+    k: usize,
+    i: usize,
+) -> Term
+    requires { ⌜ Fitting code count × (k ≡ length (clauseOf code count j)) ⌝ }
+    ensures { λ r. ⌜ r ≡ getD (map (literalTerm ts) (clauseOf code count j)) i Fails ⌝ }
+{
+    if i < k {
+        return literal_term(ts, constraint::literal_at(code, count, j, i));
+    }
+    Term::Fails
+}
+
 // The terms of clause j.
 fn clause_terms(
     ts: [Term; Model::MEMBERS],
@@ -574,6 +624,12 @@ fn put_member_clause(
     ensures { λ r. ⌜ Wrote (memberClauseText ts code count j) at (now (buf .entry)) (now (buf .exit)) r ⌝ }
 {
     let k = constraint::literal_count(code, count, j);
+    if k <= 3 {
+        let x = clause_term(ts, code, count, j, k, 0);
+        let y = clause_term(ts, code, count, j, k, 1);
+        let z = clause_term(ts, code, count, j, k, 2);
+        return put_three(buf, at, x, y, z);
+    }
     let cs = clause_terms(ts, code, count, j);
     let n = put_clause(&mut buf[at..], cs, k);
     at + n
@@ -629,14 +685,28 @@ fn put_constraint(
 
 // ---- counting the clauses that are kept
 
+// Whether a term of clause j is true.
+fn clause_true(ts: [Term; Model::MEMBERS], code: u32, count: u32, j: usize) -> bool
+    requires { ⌜ Fitting code count ⌝ }
+    ensures { λ r. ⌜ r ≡ any holds (map (literalTerm ts) (clauseOf code count j)) ⌝ }
+{
+    let k = constraint::literal_count(code, count, j);
+    if k <= 3 {
+        let x = clause_term(ts, code, count, j, k, 0);
+        let y = clause_term(ts, code, count, j, k, 1);
+        let z = clause_term(ts, code, count, j, k, 2);
+        return one_true(x, y, z);
+    }
+    let cs = clause_terms(ts, code, count, j);
+    any_true(cs, k)
+}
+
 // 1 where clause j is kept, and 0 where it is left out.
 fn kept_count(ts: [Term; Model::MEMBERS], code: u32, count: u32, j: usize) -> u32
     requires { ⌜ Fitting code count ⌝ }
     ensures { λ r. ⌜ (r ≡ keptCount ts code count j) × (r ≤ 1) ⌝ }
 {
-    let k = constraint::literal_count(code, count, j);
-    let cs = clause_terms(ts, code, count, j);
-    if any_true(cs, k) {
+    if clause_true(ts, code, count, j) {
         return 0;
     }
     1
@@ -868,6 +938,7 @@ fn write_settled(m: Model, b: u32, buf: &mut [u8]) -> Written
 pub fn write_block(m: Model, b: u32, buf: &mut [u8]) -> Written
     ensures { λ r. ⌜ r ≡ writtenBlock m b (length (now (buf .entry))) ⌝ }
     ensures { λ r. ⌜ now (buf .exit) ≡ blockBuffer m b (now (buf .entry)) ⌝ }
+    ensures { λ r. ⌜ (writtenRefusal r ≡ blockRefusal m b (length (now (buf .entry)))) × (writtenLength r ≡ blockLength m b (length (now (buf .entry)))) ⌝ }
 {
     let refusal = judged(m, b);
     if refusal != 0 {

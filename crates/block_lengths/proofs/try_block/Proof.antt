@@ -34,7 +34,7 @@ is-filled-requires-2 c κs = search needs
 returns : tie.Need-returns
 returns c =
     let w = c .before .before .before .before .before .before .write-block in
-    let n = written-inside _ _ (c .before .before .before .w .given .0 .0) _ _ (sym (c .before .before .before .w .given .1) ∙ w .ensures .0) (w .ensures .1) (w .kept .1 .1 .0) in
+    let n = written-inside _ _ (c .before .before .before .w .given .0 .0) _ _ (sym (c .before .before .before .w .given .1) ∙ w .ensures .0) (w .ensures .1 .0) (w .kept .1 .1 .0) in
     omega (arith, simp length-take at n)
 
 returns-2 : tie.Need-returns-2

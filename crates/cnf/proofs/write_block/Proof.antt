@@ -1,6 +1,7 @@
 -- `write_block` judges, then writes. Assumes nothing.
 use mathlib.Core.Path.{sym, _∙_}
-use Rattle.cnf.proofs.Entry.{written-refused, buffer-refused, fine, settled-of}
+use lib.ListN.{length}
+use Rattle.cnf.proofs.Entry.{written-refused, buffer-refused, fine, settled-of, written-means}
 use native.Mathlib.Omega.{arith}
 use borrow.Author.Needs.{needs}
 use Rattle.cnf.proofs.write_block.Statement.{statement}
@@ -10,7 +11,7 @@ judged-requires : tie.Need-judged-requires
 judged-requires c κs = search needs
 
 returns : tie.Need-returns
-returns c = (written-refused (c .before .before .before .args .m) (c .before .before .before .args .b) _ _ (c .before .judged .ensures) (c .if1 .taken), buffer-refused (c .before .before .before .args .m) (c .before .before .before .args .b) _ _ (c .before .judged .ensures) (c .if1 .taken))
+returns c = let w = written-refused (c .before .before .before .args .m) (c .before .before .before .args .b) (length (c .before .before .before .args .buf .now)) _ (c .before .judged .ensures) (c .if1 .taken) in (w, (buffer-refused (c .before .before .before .args .m) (c .before .before .before .args .b) _ _ (c .before .judged .ensures) (c .if1 .taken), written-means (c .before .before .before .args .m) (c .before .before .before .args .b) (length (c .before .before .before .args .buf .now)) _ w))
 
 whole-requires : tie.Need-whole-requires
 whole-requires c κs = search needs
@@ -22,7 +23,7 @@ same-length : tie.Need-same-length
 same-length c = search needs
 
 returns-2 : tie.Need-returns-2
-returns-2 c = search needs
+returns-2 c = let e = c .before .before .write-settled .ensures in (e .0, (e .1, written-means (c .before .before .before .before .before .before .before .before .before .before .args .m) (c .before .before .before .before .before .before .before .before .before .before .args .b) (length (c .before .before .before .before .before .before .before .before .before .before .args .buf .now)) _ (e .0)))
 
 pub write-block-spec : {M : Type 1} → statement M
 write-block-spec =

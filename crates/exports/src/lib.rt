@@ -1,0 +1,196 @@
+// What a Rust program calls: each entry on numbers and slices, its answer as one number.
+ghost use mathlib.Core.Path.{_≡_};
+ghost use Prim.Native.Nat.{_+_, _*_, _≤_};
+ghost use mathlib.Core.List.{_++_};
+ghost use lib.ListN.{length, take, drop};
+ghost use lib.Seq.{sets};
+ghost use Rattle.model.specs.Lists.{each};
+ghost use Rattle.model.specs.Limits.{limits};
+ghost use Rattle.model.specs.Model.{tableOf};
+ghost use Rattle.model.specs.Assignment.{valuesAfter};
+ghost use Rattle.exports.specs.Draw.{numbered, drawRead, settledSheet, drawSettle, groupWords, laidIn, drawTable, writtenNumber, drawBlock, drawBuffer, readingOf, lineNumber, drawLine, closedSheet, drawClose, drawGroups};
+use model::Closed;
+use model::Group;
+use model::LineRead;
+use model::Model;
+use model::Propagated;
+use model::Reading;
+use model::Written;
+
+// A refusal and a line, or a refusal and passes, in one number.
+fn numbered(refusal: u32, k: u32) -> u64
+    ensures { λ r. ⌜ r ≡ numbered refusal k ⌝ }
+{
+    refusal as u64 * 65536 + k as u64
+}
+
+// Reading: refusal * 65536 + line.
+#[no_mangle]
+pub extern "C" fn draw_read(sheet: &[u8]) -> u64
+    ensures { λ r. ⌜ r ≡ drawRead (now (sheet .entry)) ⌝ }
+{
+    let r = sheet::read_sheet(sheet);
+    numbered(r.refusal, r.line)
+}
+
+// The settled model of a sheet; or the refusal of the reader or of settling.
+fn settled(sheet: &[u8]) -> Propagated
+    ensures { λ r. ⌜ r ≡ settledSheet (now (sheet .entry)) ⌝ }
+{
+    let r = sheet::read_sheet(sheet);
+    let m = r.model;
+    if r.refusal != 0 {
+        return Propagated {
+            refusal: r.refusal,
+            passes: 0,
+            model: m,
+        };
+    }
+    propagate::propagate(m)
+}
+
+// The four words of a group, from place `at` on.
+fn put_group(g: Group, at: usize, table: &mut [u64])
+    requires { ⌜ at + 4 ≤ length (now table) ⌝ }
+    ensures { λ r. ⌜ now (table .exit) ≡ sets (now (table .entry)) at (groupWords g) ⌝ }
+{
+    table[at] = g.fixed;
+    table[at + 1] = g.possible;
+    table[at + 2] = g.low as u64;
+    table[at + 3] = g.high as u64;
+}
+
+// The words of the first s groups, at the front of a table that has room for them.
+fn put_groups(groups: [Group; Model::GROUPS], s: usize, table: &mut [u64])
+    requires { ⌜ (s ≤ limits .groups) × (4 * s ≤ length (now table)) ⌝ }
+    ensures { λ r. ⌜ now (table .exit) ≡ each groupWords (take s groups) ++ drop (4 * s) (now (table .entry)) ⌝ }
+{
+    let mut i: usize = 0;
+    while i < s {
+        let g = groups[i];
+        put_group(g, 4 * i, table);
+        i += 1;
+    }
+}
+
+// The words of a model's groups, where the table has room for them.
+fn put_table(m: Model, table: &mut [u64])
+    requires { ⌜ m .s ≤ limits .groups ⌝ }
+    ensures { λ r. ⌜ now (table .exit) ≡ laidIn (4 * m .s) (each groupWords (tableOf m)) (now (table .entry)) ⌝ }
+{
+    let s = m.s as usize;
+    if table.len() < 4 * s {
+        return;
+    }
+    let groups = m.groups;
+    put_groups(groups, s, table);
+}
+
+// Settling: refusal * 65536 + passes, and the words of the settled table.
+#[no_mangle]
+pub extern "C" fn draw_settle(sheet: &[u8], table: &mut [u64]) -> u64
+    ensures { λ r. ⌜ r ≡ drawSettle (now (sheet .entry)) ⌝ }
+    ensures { λ r. ⌜ now (table .exit) ≡ drawTable (now (sheet .entry)) (now (table .entry)) ⌝ }
+{
+    let p = settled(sheet);
+    if p.refusal != 0 {
+        return numbered(p.refusal, p.passes);
+    }
+    let m = p.model;
+    put_table(m, table);
+    numbered(p.refusal, p.passes)
+}
+
+// A refusal and a length in one number: a written block has refusal 0, so its length alone has to fit.
+fn written_number(w: Written) -> u64
+    ensures { λ r. ⌜ r ≡ writtenNumber w ⌝ }
+{
+    match w {
+        Written::Bytes(k) => k as u64,
+        Written::Refused(r) => r as u64 * 4294967296,
+    }
+}
+
+// A block of the settled sheet: refusal * 4294967296 + length.
+#[no_mangle]
+pub extern "C" fn draw_block(sheet: &[u8], block: u32, buffer: &mut [u8]) -> u64
+    ensures { λ r. ⌜ r ≡ drawBlock (now (sheet .entry)) block (length (now (buffer .entry))) ⌝ }
+    ensures { λ r. ⌜ now (buffer .exit) ≡ drawBuffer (now (sheet .entry)) block (now (buffer .entry)) ⌝ }
+{
+    let p = settled(sheet);
+    if p.refusal != 0 {
+        return written_number(Written::Refused(p.refusal));
+    }
+    let m = p.model;
+    let w = cnf::write_block(m, block, buffer);
+    written_number(w)
+}
+
+// A refusal, and 1 where the reading is closed.
+fn line_number(r: LineRead) -> u32
+    requires { ⌜ r .refusal ≤ 25 ⌝ }
+    ensures { λ k. ⌜ k ≡ lineNumber r ⌝ }
+{
+    let reading = r.reading;
+    if reading.closed {
+        return r.refusal * 2 + 1;
+    }
+    r.refusal * 2
+}
+
+// A solver line: refusal * 2, and 1 more where the reading is closed afterwards.
+#[no_mangle]
+pub extern "C" fn draw_line(closed: u32, line: &[u8], values: &mut [u8]) -> u32
+    ensures { λ r. ⌜ r ≡ drawLine closed (now (line .entry)) (now (values .entry)) ⌝ }
+    ensures { λ r. ⌜ now (values .exit) ≡ valuesAfter (readingOf closed) (now (line .entry)) (now (values .entry)) ⌝ }
+{
+    let before = Reading {
+        closed: closed != 0,
+    };
+    let r = assignment::read_line(before, line, values);
+    line_number(r)
+}
+
+// Closing on the settled model of a sheet; or the refusal of the reader or of settling, and zeros.
+fn closed_sheet(sheet: &[u8], closed: u32, values: &[u8]) -> Closed
+    ensures { λ r. ⌜ r ≡ closedSheet (now (sheet .entry)) closed (now (values .entry)) ⌝ }
+{
+    let p = settled(sheet);
+    if p.refusal != 0 {
+        return Closed {
+            refusal: p.refusal,
+            groups: [0; Model::GROUPS],
+        };
+    }
+    let m = p.model;
+    let reading = Reading {
+        closed: closed != 0,
+    };
+    solution::close(m, reading, values)
+}
+
+// A word for each group, where the slice has room for them.
+fn put_words(words: [u64; Model::GROUPS], groups: &mut [u64])
+    ensures { λ r. ⌜ now (groups .exit) ≡ laidIn (limits .groups) words (now (groups .entry)) ⌝ }
+{
+    if groups.len() < Model::GROUPS {
+        return;
+    }
+    let mut i: usize = 0;
+    while i < Model::GROUPS {
+        groups[i] = words[i];
+        i += 1;
+    }
+}
+
+// Closing: the refusal, and the groups.
+#[no_mangle]
+pub extern "C" fn draw_close(sheet: &[u8], closed: u32, values: &[u8], groups: &mut [u64]) -> u32
+    ensures { λ r. ⌜ r ≡ drawClose (now (sheet .entry)) closed (now (values .entry)) ⌝ }
+    ensures { λ r. ⌜ now (groups .exit) ≡ drawGroups (now (sheet .entry)) closed (now (values .entry)) (now (groups .entry)) ⌝ }
+{
+    let a = closed_sheet(sheet, closed, values);
+    let words = a.groups;
+    put_words(words, groups);
+    a.refusal
+}
