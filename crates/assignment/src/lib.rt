@@ -170,8 +170,11 @@ fn write_literals(s: &[u8], values: &mut [u8])
     }
 }
 
-// Variables up to this one are noted in an array of flags, so that a line that names them all is judged in linear time.
+// Variables up to this one are noted as bits, so that a line that names them all is judged in linear time.
 const NOTED: usize = 65536;
+
+// The words that hold the bits.
+const WORDS: usize = 1024;
 
 // Whether one of the first `count` literals of the words of s names v.
 fn named_before(s: &[u8], count: usize, v: u32) -> bool
@@ -199,26 +202,27 @@ fn named_before(s: &[u8], count: usize, v: u32) -> bool
 }
 
 // The same, by the flags where they reach.
-fn is_seen(flags: &[u8; NOTED], s: &[u8], count: usize, v: u32) -> bool
+fn is_seen(flags: &[u64; WORDS], s: &[u8], count: usize, v: u32) -> bool
     requires { ⌜ Noted (now flags) (take count (named (wordsOf (now s)))) ⌝ }
     requires { ⌜ 1 ≤ v ⌝ }
     ensures { λ r. ⌜ r ≡ names? v (take count (named (wordsOf (now (s .entry))))) ⌝ }
 {
     let i = (v - 1) as usize;
     if i < NOTED {
-        return flags[i] == 1;
+        return (flags[i / 64] >> (i % 64)) % 2 == 1;
     }
     named_before(s, count, v)
 }
 
 // Notes variable v.
-fn note(flags: &mut [u8; NOTED], v: u32)
+fn note(flags: &mut [u64; WORDS], v: u32)
     requires { ⌜ 1 ≤ v ⌝ }
     ensures { λ r. ⌜ now (flags .exit) ≡ notedWith v (now (flags .entry)) ⌝ }
 {
     let i = (v - 1) as usize;
     if i < NOTED {
-        flags[i] = 1;
+        let w = flags[i / 64];
+        flags[i / 64] = w | 1 << (i % 64);
     }
 }
 
@@ -227,7 +231,7 @@ fn literals_refusal(s: &[u8], values: &[u8]) -> u32
     ensures { λ r. ⌜ r ≡ literalsRefusal (named (wordsOf (now (s .entry)))) (now (values .entry)) ⌝ }
 {
     let n = s.len();
-    let mut flags = [0u8; NOTED];
+    let mut flags = [0u64; WORDS];
     let mut at: usize = 0;
     let mut count: usize = 0;
     while at <= n {
