@@ -12,7 +12,7 @@ use Rattle.model.specs.declared.Word.{Word}
 use Rattle.model.specs.declared.Word.the-variants.{Names, Closing, Malformed}
 use Rattle.model.specs.Lists.{any, stop}
 use Rattle.model.specs.Words.{has}
-use Rattle.model.specs.Assignment.{wordValue, Said, isSaid, variable}
+use Rattle.model.specs.Assignment.{wordValue, Said, isSaid, variable, literalsRefusal, withValues}
 use Rattle.model.specs.declared.Digits.{Digits}
 use Rattle.model.specs.declared.Digits.the-variants.{Number, Bad}
 use Rattle.assignment.specs.declared.Form.{Form}
@@ -76,3 +76,18 @@ withFlag i flags = set flags (i / 64) (bitOr (getD flags (i / 64) 0) (2 ^ (i % 6
 
 unfoldable pub notedWith : ℕ → List ℕ → List ℕ
 notedWith v flags = cond (ltb (v - 1) 65536) (withFlag (v - 1) flags) flags
+
+-- ---- a short line: the places that it writes, and the bytes that stood there
+
+-- the first n places lie below a length
+pub record Within (places : List ℕ) (n size : ℕ) : Type 0 where
+  pub at : (i : ℕ) → i < n → getD places i 0 < size
+
+-- the first n bytes back at their places, the last one first
+abbrev pub putBack : ℕ → List ℕ → List ℕ → List ℕ → List ℕ
+putBack zero places bytes values = values
+putBack (suc i) places bytes values = putBack i places bytes (set values (getD places i 0) (getD bytes i 0))
+
+-- the values after literals that are written unless one is refused
+unfoldable pub takenBy : List Literal → List ℕ → List ℕ
+takenBy ls values = cond (eqb (literalsRefusal ls values) 0) (withValues ls values) values

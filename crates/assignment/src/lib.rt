@@ -6,7 +6,7 @@ ghost use mathlib.Core.List.{List};
 ghost use lib.Dec.{eqb};
 ghost use lib.ListN.{length, getD, take, set};
 ghost use Rattle.model.specs.Assignment.{wordsOf, variableIn, wordValue, sayWords, formOf, isSaid, variable, valueFor, literalsRefusal, withValues, lineRead, valuesAfter};
-ghost use Rattle.assignment.specs.Line.{wordLength, asOption, formFrom, named, names?, isWrong, isClosed, Noted, notedWith};
+ghost use Rattle.assignment.specs.Line.{wordLength, asOption, formFrom, named, names?, isWrong, isClosed, Noted, notedWith, Within, putBack, takenBy};
 use model::Digits;
 use model::LineRead;
 use model::Literal;
@@ -261,6 +261,82 @@ fn literals_refusal(s: &[u8], values: &[u8]) -> u32
     0
 }
 
+// A line of up to this many bytes is judged and written in one pass; the places that it writes, and the bytes that stood there, are kept.
+const SHORT: usize = 128;
+
+// A short line has no more literals: each takes a byte, and a space or the end.
+const KEPT: usize = 64;
+
+// Puts the first `count` bytes back to their places, the last one first.
+fn put_back(places: &[u32; KEPT], bytes: &[u8; KEPT], count: usize, values: &mut [u8])
+    requires { ⌜ count ≤ 64 ⌝ }
+    requires { ⌜ Within (now places) count (length (now values)) ⌝ }
+    ensures { λ r. ⌜ now (values .exit) ≡ putBack count (now (places .entry)) (now (bytes .entry)) (now (values .entry)) ⌝ }
+{
+    let mut i = count;
+    while 0 < i {
+        i -= 1;
+        let p = places[i] as usize;
+        values[p] = bytes[i];
+    }
+}
+
+// Refusals 11 and 12 of the literals of the words of s, at most SHORT bytes. Where there is none, they are written.
+fn take_short(s: &[u8], values: &mut [u8]) -> u32
+    requires { ⌜ length (now s) ≤ 128 ⌝ }
+    ensures { λ r. ⌜ r ≡ literalsRefusal (named (wordsOf (now (s .entry)))) (now (values .entry)) ⌝ }
+    ensures { λ r. ⌜ now (values .exit) ≡ takenBy (named (wordsOf (now (s .entry)))) (now (values .entry)) ⌝ }
+{
+    let n = s.len();
+    let mut places = [0u32; KEPT];
+    let mut bytes = [0u8; KEPT];
+    let mut at: usize = 0;
+    let mut count: usize = 0;
+    while at <= n {
+        let rest = &s[at..];
+        let k = word_length(rest);
+        let Word::Names(l) = word_value(&rest[..k]) else {
+            return 0;
+        };
+        let v = variable_of(l);
+        if values.len() < v as usize {
+            put_back(&places, &bytes, count, values);
+            return 11;
+        }
+        let i = (v - 1) as usize;
+        let b = values[i];
+        if is_said(b) {
+            put_back(&places, &bytes, count, values);
+            return 12;
+        }
+        places[count] = v - 1;
+        bytes[count] = b;
+        values[i] = value_for(l);
+        count += 1;
+        if at + k == n {
+            return 0;
+        }
+        at = at + k + 1;
+    }
+    0
+}
+
+// The same of words of any length.
+fn take_literals(s: &[u8], values: &mut [u8]) -> u32
+    ensures { λ r. ⌜ r ≡ literalsRefusal (named (wordsOf (now (s .entry)))) (now (values .entry)) ⌝ }
+    ensures { λ r. ⌜ now (values .exit) ≡ takenBy (named (wordsOf (now (s .entry)))) (now (values .entry)) ⌝ }
+{
+    if s.len() <= SHORT {
+        return take_short(s, values);
+    }
+    let bad = literals_refusal(s, values);
+    if bad != 0 {
+        return bad;
+    }
+    write_literals(s, values);
+    0
+}
+
 fn is_wrong(f: Form) -> bool
     ensures { λ r. ⌜ r ≡ isWrong f ⌝ }
 {
@@ -301,14 +377,10 @@ fn read_values(reading: Reading, line: &[u8], values: &mut [u8]) -> LineRead
             reading: Reading { closed },
         };
     }
-    let bad = literals_refusal(&line[2..], values);
-    if bad != 0 {
-        return LineRead {
-            refusal: bad,
-            reading,
-        };
+    let refusal = take_literals(&line[2..], values);
+    if refusal != 0 {
+        return LineRead { refusal, reading };
     }
-    write_literals(&line[2..], values);
     LineRead {
         refusal: 0,
         reading: Reading { closed },
