@@ -1,4 +1,4 @@
-// Solver lines: the form of the whole line first, then its literals one by one, and only then any value is written.
+// Solver lines: the form of the whole line first, then its literals one by one. A refused line changes no value.
 ghost use mathlib.Core.Path.{_≡_};
 ghost use mathlib.Core.Bool.{false};
 ghost use Prim.Native.Nat.{ℕ, _≤_, _<_, _+_};
@@ -261,10 +261,10 @@ fn literals_refusal(s: &[u8], values: &[u8]) -> u32
     0
 }
 
-// A line of up to this many bytes is judged and written in one pass; the places that it writes, and the bytes that stood there, are kept.
+// Words of up to this many bytes are judged and written in one pass; the places that it writes, and the bytes that stood there, are kept.
 const SHORT: usize = 128;
 
-// A short line has no more literals: each takes a byte, and a space or the end.
+// They are no more literals than this: each takes a byte, and a space before the next.
 const KEPT: usize = 64;
 
 // Puts the first `count` bytes back to their places, the last one first.

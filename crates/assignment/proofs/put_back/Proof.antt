@@ -1,6 +1,6 @@
 -- `put_back` puts bytes back to their places. Invariant: the bytes before i are still to be put back. Assumes nothing.
 use Prim.Native.Nat.{suc, _-_, _≤_}
-use mathlib.Core.Path.{_≡_, refl, _∙_, sym, ap}
+use mathlib.Core.Path.{_≡_, _∙_, sym, ap}
 use lib.ListN.{length, length-set}
 use Rattle.assignment.specs.Line.{putBack}
 use native.Mathlib.Omega.{arith}

@@ -1,6 +1,4 @@
 -- `read_values` reads a `v` line: form, then its literals. Assumes nothing.
-use Prim.Native.Nat.{_-_}
-use mathlib.Core.Path.{_∙_, sym}
 use Rattle.assignment.proofs.Lines.{out-wrong, out-alone, out-refused, out-taken}
 use borrow.Author.Needs.{needs}
 use Rattle.assignment.proofs.read_values.Statement.{statement}

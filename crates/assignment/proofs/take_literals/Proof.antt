@@ -1,6 +1,7 @@
 -- `take_literals` takes a short line in one pass, and a longer one in two. Assumes nothing.
-use mathlib.Core.Path.{_∙_, sym}
+use mathlib.Core.Path.{_≡_, _∙_, sym}
 use Rattle.assignment.proofs.Taken.{taken-good, taken-none}
+use native.Mathlib.Omega.{arith}
 use borrow.Author.Needs.{needs}
 use Rattle.assignment.proofs.take_literals.Statement.{statement}
 use Rattle.assignment.proofs.take_literals.Tie as tie
@@ -21,10 +22,12 @@ same-length-2 : tie.Need-same-length-2
 same-length-2 c = search needs
 
 returns-2 : tie.Need-returns-2
-returns-2 c = (c .before .literals-refusal .ensures, taken-none _ _ _ (c .before .literals-refusal .ensures) (c .if2 .taken))
+returns-2 c = (c .before .literals-refusal .ensures, taken-none _ _ _ (c .before .literals-refusal .ensures) (λ z. omega arith))
 
 write-literals-requires : tie.Need-write-literals-requires
-write-literals-requires c κs = search needs
+write-literals-requires c κs =
+    let good : c .before .before .literals-refusal .result ≡ 0 = omega arith in
+    sym (c .before .before .literals-refusal .ensures) ∙ good
 
 same-length-3 : tie.Need-same-length-3
 same-length-3 c = search needs

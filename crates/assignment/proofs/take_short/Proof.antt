@@ -1,7 +1,7 @@
 -- `take_short` judges and writes the literals of words in order. Invariant: what was written can be put back, and the rest is still to be judged. Assumes nothing.
 use Prim.Native.Nat.{_<_, _+_, _-_}
 use mathlib.Core.Path.{_∙_, sym, ap}
-use lib.ListN.{length, getD}
+use lib.ListN.{length}
 use Rattle.assignment.proofs.Words.{isNames, not-names}
 use Rattle.assignment.proofs.Taken.{Taking, take-start, take-end, take-le, take-size, take-named, take-room, take-11, take-12, take-last, take-more}
 use native.Mathlib.Omega.{arith}
