@@ -1,3 +1,4 @@
 pub mod Words
 pub mod Judged
+pub mod Taken
 pub mod Lines

@@ -18,8 +18,9 @@ use Rattle.model.specs.declared.LineRead.{LineRead}
 use Rattle.model.specs.Assignment.{wordsOf, wordValue, Said, nothingSaid, withLiteral, sayWord, sayWords, afterV, formOf, literalsRefusal, withValues, saidRefusal, isPassedOver, callRefusal, isTaken, saidBy, lineRead, valuesAfter}
 use Rattle.assignment.specs.declared.Form.{Form}
 use Rattle.assignment.specs.declared.Form.the-variants.{Wrong, Open, Closed}
-use Rattle.assignment.specs.Line.{formFrom, isWrong, isClosed, ifNames, named}
+use Rattle.assignment.specs.Line.{formFrom, isWrong, isClosed, ifNames, named, takenBy}
 use Rattle.assignment.proofs.Words.{words-some}
+use Rattle.assignment.proofs.Taken.{taken-good, taken-none}
 
 -- ---- the form
 
@@ -172,11 +173,15 @@ module _ (r : Reading) (line values : List ℕ) (first : getD line 0 0 ≡ 118) 
       bad-is : literalsRefusal (said .0 .literals) values ≡ bad
       bad-is = ap (λ (ls : List Literal). literalsRefusal ls values) literals-are ∙ sym eb
 
-      pub out-refused : (bad ≡ 0 → ⊥) → (record { refusal = bad; reading = r } ≡ lineRead r line values) × (values ≡ valuesAfter r line values)
-      out-refused g = refused-line r line values first ready bad (ap (λ (o : Option Said). saidRefusal o values) (said .1) ∙ bad-is) g
+      module _ (after : List ℕ) (ea : after ≡ takenBy (named (wordsOf (take (length line - 2) (drop 2 line)))) values) where
+        pub out-refused : (bad ≡ 0 → ⊥) → (record { refusal = bad; reading = r } ≡ lineRead r line values) × (after ≡ valuesAfter r line values)
+        out-refused g =
+            let t = refused-line r line values first ready bad (ap (λ (o : Option Said). saidRefusal o values) (said .1) ∙ bad-is) g in
+            (t .0, ea ∙ sym (taken-none (named (wordsOf part)) values bad eb g) ∙ t .1)
 
-      pub out-taken : bad ≡ 0 → (after : List ℕ) → after ≡ withValues (named (wordsOf (take (length line - 2) (drop 2 line)))) values
-          → (record { refusal = 0; reading = record { closed = closed } } ≡ lineRead r line values) × (after ≡ valuesAfter r line values)
-      out-taken z after ea =
-          let t = taken-line r line values first ready (said .0) (said .1) (bad-is ∙ z) in
-          (ap (λ (b : Bool). record { refusal = 0; reading = record { closed = b } }) closed-is ∙ t .0, ea ∙ ap (λ (ls : List Literal). withValues ls values) (sym literals-are) ∙ t .1)
+        pub out-taken : bad ≡ 0 → (record { refusal = 0; reading = record { closed = closed } } ≡ lineRead r line values) × (after ≡ valuesAfter r line values)
+        out-taken z =
+            let t = taken-line r line values first ready (said .0) (said .1) (bad-is ∙ z) in (
+              ap (λ (b : Bool). record { refusal = 0; reading = record { closed = b } }) closed-is ∙ t .0,
+              ea ∙ sym (taken-good (named (wordsOf part)) values (sym eb ∙ z)) ∙ ap (λ (ls : List Literal). withValues ls values) (sym literals-are) ∙ t .1,
+            )

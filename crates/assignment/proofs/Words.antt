@@ -1,31 +1,36 @@
 -- The words of a line one by one: what stands from place `at` on. Assumes nothing.
-use Prim.Native.Nat.{ℕ, zero, suc, _+_, _-_, _≤_, _<_, min}
+use Prim.Native.Nat.{ℕ, zero, suc, _+_, _-_, _*_, _/_, _%_, _^_, _≤_, _<_, min}
 use mathlib.Core.Path.{_≡_, refl, ap, sym, _∙_, subst}
 use mathlib.Core.Bool.{Bool, true, false, cond, _||_}
 use mathlib.Core.List.{List, [], _∷_, _++_}
 use mathlib.Core.Option.{Option, none, some}
+use native.Mathlib.Nat.{one-mul}
 use native.Mathlib.Numerals.{add-one}
 use native.Mathlib.Decide.{decLt, ℕ-discrete}
 use native.Mathlib.Omega.{arith}
-use borrow.Author.Tests.{eq-eqb, ne-eqb, ltb-false}
+use borrow.Author.Tests.{eq-eqb, ne-eqb, ltb-true, ltb-false}
 use denote.Enum.Declared.{tagOf}
 use types.Run.{OneOf, miss}
 use Rattle.model.proofs.Word.{the-type}
 use Rattle.model.proofs.Solver.{word-named}
+use lib.Bits.{bitOr}
 use lib.Dec.{ltb, eqb}
+use lib.Pow.{shl-exact}
 use lib.ListN.{length, take, drop, getD, set, replicate, length-take, length-drop, length-set, length-replicate, getD-replicate}
 use lib.Seq.{take-all, take-nil, drop-drop, getD-set-same, getD-set-other}
 use Rattle.model.specs.declared.Literal.{Literal}
 use Rattle.model.specs.declared.Word.{Word}
 use Rattle.model.specs.declared.Word.the-variants.{Names, Closing, Malformed}
 use Rattle.model.specs.Lists.{stop}
+use Rattle.model.specs.Words.{has}
 use Rattle.model.specs.Sheet.{onFirst}
 use Rattle.model.specs.Assignment.{wordsOf, wordValue, Said, nothingSaid, withLiteral, sayWord, sayWords, isSaid, variable, valueFor, withValue, literalsRefusal, withValues}
 use Rattle.model.proofs.Lists.{any-append}
 use Rattle.model.proofs.Loops.{drop-next}
+use Rattle.model.proofs.Words.{has-zero, has-or, has-first, has-next}
 use Rattle.assignment.specs.declared.Form.{Form}
 use Rattle.assignment.specs.declared.Form.the-variants.{Wrong, Open, Closed}
-use Rattle.assignment.specs.Line.{wordLength, formFrom, ifNames, named, names?, judged, Noted, notedWith}
+use Rattle.assignment.specs.Line.{wordLength, formFrom, ifNames, named, names?, judged, Noted, withFlag, notedWith}
 
 module _ (l : List ℕ) (i : ℕ) (h : i < length l) where
   pub word-more : (getD l i 0 ≡ 32 → ⊥) → wordLength (drop i l) ≡ suc (wordLength (drop (i + 1) l))
@@ -241,35 +246,69 @@ module _ (s : List ℕ) (v at k : ℕ) (place : at ≤ length s) (e : k ≡ word
 
 -- ---- flags
 
+-- `1 << e` has bit e and no other
+pub shifted : (e : ℕ) → e < 64 → 1 * 2 ^ e % 2 ^ 64 ≡ 2 ^ e
+shifted e h = shl-exact 1 e 64 (omega arith) (omega arith) ∙ one-mul (2 ^ e)
+
+same-test : (a b c d : ℕ) → (a ≡ b → c ≡ d) → (c ≡ d → a ≡ b) → eqb a b ≡ eqb c d
+same-test a b c d to from = go (ℕ-discrete a b)
+  where
+    go : Dec (a ≡ b) → eqb a b ≡ eqb c d
+    go (yes p) = eq-eqb a b p ∙ sym (eq-eqb c d (to p))
+    go (no f) = ne-eqb a b f ∙ sym (ne-eqb c d (λ q. f (from q)))
+
+has-power : (e j : ℕ) → has (2 ^ e) j ≡ eqb e j
+has-power zero zero = has-first 1
+has-power zero (suc j) = has-next 1 j ∙ has-zero j ∙ sym (ne-eqb 0 (suc j) (λ q. omega arith))
+has-power (suc e) zero = has-first (2 ^ suc e) ∙ same-test (2 ^ suc e % 2) 1 (suc e) 0 (λ q. omega arith) (λ q. omega arith)
+has-power (suc e) (suc j) =
+    let h : 2 ^ suc e / 2 ≡ 2 ^ e = omega arith in
+    has-next (2 ^ suc e) j ∙ ap (λ (w : ℕ). has w j) h ∙ has-power e j ∙ same-test e j (suc e) (suc j) (λ q. omega arith) (λ q. omega arith)
+
+or-false : (a : Bool) → (a || false) ≡ a
+or-false true = refl
+or-false false = refl
+
+-- flag j after flag i is set
+flag-set : (flags : List ℕ) (i j : ℕ) → i / 64 < length flags
+    → has (getD (withFlag i flags) (j / 64) 0) (j % 64) ≡ (has (getD flags (j / 64) 0) (j % 64) || eqb i j)
+unfolding withFlag
+flag-set flags i j h = go (ℕ-discrete (j / 64) (i / 64))
+  where
+    go : Dec (j / 64 ≡ i / 64)
+        → has (getD (set flags (i / 64) (bitOr (getD flags (i / 64) 0) (2 ^ (i % 64)))) (j / 64) 0) (j % 64) ≡ (has (getD flags (j / 64) 0) (j % 64) || eqb i j)
+    go (yes q) =
+        rw (q, getD-set-same flags (i / 64) (bitOr (getD flags (i / 64) 0) (2 ^ (i % 64))) 0 h, has-or (getD flags (i / 64) 0) (2 ^ (i % 64)) (j % 64))
+        (ap (λ (b : Bool). has (getD flags (i / 64) 0) (j % 64) || b) (has-power (i % 64) (j % 64) ∙ same-test (i % 64) (j % 64) i j (λ p. omega arith) (ap (λ (x : ℕ). x % 64))))
+    go (no f) =
+        rw (getD-set-other flags (i / 64) (j / 64) (bitOr (getD flags (i / 64) 0) (2 ^ (i % 64))) 0 f, ne-eqb i j (λ e. f (ap (λ (x : ℕ). x / 64) (sym e))))
+        (sym (or-false (has (getD flags (j / 64) 0) (j % 64))))
+
 pub noted-next : (flags : List ℕ) (seen : List Literal) (l : Literal) (v : ℕ) → v ≡ variable l → 1 ≤ v → Noted flags seen → Noted (notedWith v flags) (seen ++ (l ∷ []))
 unfolding notedWith
 noted-next flags seen l v p h n = go (ltb (v - 1) 65536) refl
   where
-    or-true : (a b : Bool) → b ≡ true → (a || (b || false)) ≡ true
-    or-true true b e = refl
-    or-true false b e = rw e
+    named-more : (i : ℕ) → names? (suc i) (seen ++ (l ∷ [])) ≡ (names? (suc i) seen || eqb (variable l) (suc i))
+    named-more i = any-append (λ k. eqb (variable k) (suc i)) seen (l ∷ []) ∙ ap (λ (b : Bool). names? (suc i) seen || b) (or-false (eqb (variable l) (suc i)))
 
-    or-false : (a b : Bool) → b ≡ false → (a || (b || false)) ≡ a
-    or-false true b e = refl
-    or-false false b e = rw e
-
-    same : (i : ℕ) → i < 65536 → Dec (i ≡ v - 1) → eqb (getD (set flags (v - 1) 1) i 0) 1 ≡ names? (suc i) (seen ++ (l ∷ []))
-    same i r (yes q) =
-        rw (any-append (λ k. eqb (variable k) (suc i)) seen (l ∷ []), q, getD-set-same flags (v - 1) 1 0 (omega (arith, n .size, q, r)))
-        (sym (or-true (names? (suc (v - 1)) seen) (eqb (variable l) (suc (v - 1))) (eq-eqb (variable l) (suc (v - 1)) (omega (arith, p, h)))))
-    same i r (no f) =
-        rw (any-append (λ k. eqb (variable k) (suc i)) seen (l ∷ []), getD-set-other flags (v - 1) i 1 0 f)
-        (n .at i r ∙ sym (or-false (names? (suc i) seen) (eqb (variable l) (suc i)) (ne-eqb (variable l) (suc i) (λ q. f (omega (arith, p, q))))))
-
-    past : ltb (v - 1) 65536 ≡ false → (i : ℕ) → i < 65536 → eqb (getD flags i 0) 1 ≡ names? (suc i) (seen ++ (l ∷ []))
+    past : ltb (v - 1) 65536 ≡ false → (i : ℕ) → i < 65536 → has (getD flags (i / 64) 0) (i % 64) ≡ names? (suc i) (seen ++ (l ∷ []))
     past q i r =
         let b = ltb-false (v - 1) 65536 q in
-        rw (any-append (λ k. eqb (variable k) (suc i)) seen (l ∷ []))
-        (n .at i r ∙ sym (or-false (names? (suc i) seen) (eqb (variable l) (suc i)) (ne-eqb (variable l) (suc i) (λ z. omega (arith, p, z, b, r)))))
+        n .at i r
+        ∙ sym (named-more i ∙ ap (λ (b : Bool). names? (suc i) seen || b) (ne-eqb (variable l) (suc i) (λ z. omega (arith, p, z, b, r))) ∙ or-false (names? (suc i) seen))
 
-    go : (b : Bool) → ltb (v - 1) 65536 ≡ b → Noted (cond b (set flags (v - 1) 1) flags) (seen ++ (l ∷ []))
-    go true q = record { size = length-set flags (v - 1) 1 ∙ n .size; at = λ i r. same i r (ℕ-discrete i (v - 1)) }
+    go : (b : Bool) → ltb (v - 1) 65536 ≡ b → Noted (cond b (withFlag (v - 1) flags) flags) (seen ++ (l ∷ []))
+    go true q = record {
+      size = unfold withFlag in length-set flags ((v - 1) / 64) (bitOr (getD flags ((v - 1) / 64) 0) (2 ^ ((v - 1) % 64))) ∙ n .size;
+      at = λ i r. flag-set flags (v - 1) i (omega (arith, n .size, ltb-true (v - 1) 65536 q))
+          ∙ ap (λ (b : Bool). b || eqb (v - 1) i) (n .at i r)
+          ∙ ap (λ (b : Bool). names? (suc i) seen || b) (same-test (v - 1) i (variable l) (suc i) (λ q. omega (arith, p)) (λ q. omega (arith, p)))
+          ∙ sym (named-more i);
+    }
     go false q = record { size = n .size; at = past q }
 
-pub noted-none : Noted (replicate 65536 0) []
-noted-none = record { size = length-replicate {A = ℕ} 65536 0; at = λ i r. ap (λ (x : ℕ). eqb x 1) (getD-replicate 65536 i 0 0 r) }
+pub noted-none : Noted (replicate 1024 0) []
+noted-none = record {
+  size = length-replicate {A = ℕ} 1024 0;
+  at = λ i r. ap (λ (w : ℕ). has w (i % 64)) (getD-replicate 1024 (i / 64) 0 0 (omega arith)) ∙ has-zero (i % 64);
+}

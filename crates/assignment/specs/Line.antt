@@ -1,16 +1,18 @@
 -- What the line reader's helpers answer, in the definitions' terms.
 use mathlib.Core.Path.{_≡_}
-use Prim.Native.Nat.{ℕ, zero, suc, _-_, _<_}
+use Prim.Native.Nat.{ℕ, zero, suc, _-_, _/_, _%_, _^_, _<_}
 use mathlib.Core.Bool.{Bool, true, false, cond, _||_}
 use mathlib.Core.List.{List, [], _∷_, _++_}
 use mathlib.Core.Option.{Option, none, some}
+use lib.Bits.{bitOr}
 use lib.Dec.{ltb, eqb}
 use lib.ListN.{length, getD, set}
 use Rattle.model.specs.declared.Literal.{Literal}
 use Rattle.model.specs.declared.Word.{Word}
 use Rattle.model.specs.declared.Word.the-variants.{Names, Closing, Malformed}
 use Rattle.model.specs.Lists.{any, stop}
-use Rattle.model.specs.Assignment.{wordValue, Said, isSaid, variable}
+use Rattle.model.specs.Words.{has}
+use Rattle.model.specs.Assignment.{wordValue, Said, isSaid, variable, literalsRefusal, withValues}
 use Rattle.model.specs.declared.Digits.{Digits}
 use Rattle.model.specs.declared.Digits.the-variants.{Number, Bad}
 use Rattle.assignment.specs.declared.Form.{Form}
@@ -62,11 +64,30 @@ judged seen (l ∷ ls) values =
     (stop (isSaid (getD values (variable l - 1) 0)) 12
     (stop (names? (variable l) seen) 12 (judged (seen ++ (l ∷ [])) ls values)))
 
--- ---- the flags: place i holds 1 exactly when variable i + 1 was named
+-- ---- the flags: bit i % 64 of word i / 64 is set exactly when variable i + 1 was named
 
 pub record Noted (flags : List ℕ) (seen : List Literal) : Type 0 where
-  pub size : length flags ≡ 65536
-  pub at : (i : ℕ) → i < 65536 → eqb (getD flags i 0) 1 ≡ names? (suc i) seen
+  pub size : length flags ≡ 1024
+  pub at : (i : ℕ) → i < 65536 → has (getD flags (i / 64) 0) (i % 64) ≡ names? (suc i) seen
+
+-- the words with bit i set
+unfoldable pub withFlag : ℕ → List ℕ → List ℕ
+withFlag i flags = set flags (i / 64) (bitOr (getD flags (i / 64) 0) (2 ^ (i % 64)))
 
 unfoldable pub notedWith : ℕ → List ℕ → List ℕ
-notedWith v flags = cond (ltb (v - 1) 65536) (set flags (v - 1) 1) flags
+notedWith v flags = cond (ltb (v - 1) 65536) (withFlag (v - 1) flags) flags
+
+-- ---- a short line: the places that it writes, and the bytes that stood there
+
+-- the first n places lie below a length
+pub record Within (places : List ℕ) (n size : ℕ) : Type 0 where
+  pub at : (i : ℕ) → i < n → getD places i 0 < size
+
+-- the first n bytes back at their places, the last one first
+abbrev pub putBack : ℕ → List ℕ → List ℕ → List ℕ → List ℕ
+putBack zero places bytes values = values
+putBack (suc i) places bytes values = putBack i places bytes (set values (getD places i 0) (getD bytes i 0))
+
+-- the values after literals that are written unless one is refused
+unfoldable pub takenBy : List Literal → List ℕ → List ℕ
+takenBy ls values = cond (eqb (literalsRefusal ls values) 0) (withValues ls values) values

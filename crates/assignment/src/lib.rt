@@ -1,4 +1,4 @@
-// Solver lines: the form of the whole line first, then its literals one by one, and only then any value is written.
+// Solver lines: the form of the whole line first, then its literals one by one. A refused line changes no value.
 ghost use mathlib.Core.Path.{_≡_};
 ghost use mathlib.Core.Bool.{false};
 ghost use Prim.Native.Nat.{ℕ, _≤_, _<_, _+_};
@@ -6,7 +6,7 @@ ghost use mathlib.Core.List.{List};
 ghost use lib.Dec.{eqb};
 ghost use lib.ListN.{length, getD, take, set};
 ghost use Rattle.model.specs.Assignment.{wordsOf, variableIn, wordValue, sayWords, formOf, isSaid, variable, valueFor, literalsRefusal, withValues, lineRead, valuesAfter};
-ghost use Rattle.assignment.specs.Line.{wordLength, asOption, formFrom, named, names?, isWrong, isClosed, Noted, notedWith};
+ghost use Rattle.assignment.specs.Line.{wordLength, asOption, formFrom, named, names?, isWrong, isClosed, Noted, notedWith, Within, putBack, takenBy};
 use model::Digits;
 use model::LineRead;
 use model::Literal;
@@ -170,8 +170,11 @@ fn write_literals(s: &[u8], values: &mut [u8])
     }
 }
 
-// Variables up to this one are noted in an array of flags, so that a line that names them all is judged in linear time.
+// Variables up to this one are noted as bits, so that a line that names them all is judged in linear time.
 const NOTED: usize = 65536;
+
+// The words that hold the bits.
+const WORDS: usize = 1024;
 
 // Whether one of the first `count` literals of the words of s names v.
 fn named_before(s: &[u8], count: usize, v: u32) -> bool
@@ -199,26 +202,27 @@ fn named_before(s: &[u8], count: usize, v: u32) -> bool
 }
 
 // The same, by the flags where they reach.
-fn is_seen(flags: &[u8; NOTED], s: &[u8], count: usize, v: u32) -> bool
+fn is_seen(flags: &[u64; WORDS], s: &[u8], count: usize, v: u32) -> bool
     requires { ⌜ Noted (now flags) (take count (named (wordsOf (now s)))) ⌝ }
     requires { ⌜ 1 ≤ v ⌝ }
     ensures { λ r. ⌜ r ≡ names? v (take count (named (wordsOf (now (s .entry))))) ⌝ }
 {
     let i = (v - 1) as usize;
     if i < NOTED {
-        return flags[i] == 1;
+        return (flags[i / 64] >> (i % 64)) % 2 == 1;
     }
     named_before(s, count, v)
 }
 
 // Notes variable v.
-fn note(flags: &mut [u8; NOTED], v: u32)
+fn note(flags: &mut [u64; WORDS], v: u32)
     requires { ⌜ 1 ≤ v ⌝ }
     ensures { λ r. ⌜ now (flags .exit) ≡ notedWith v (now (flags .entry)) ⌝ }
 {
     let i = (v - 1) as usize;
     if i < NOTED {
-        flags[i] = 1;
+        let w = flags[i / 64];
+        flags[i / 64] = w | 1 << (i % 64);
     }
 }
 
@@ -227,7 +231,7 @@ fn literals_refusal(s: &[u8], values: &[u8]) -> u32
     ensures { λ r. ⌜ r ≡ literalsRefusal (named (wordsOf (now (s .entry)))) (now (values .entry)) ⌝ }
 {
     let n = s.len();
-    let mut flags = [0u8; NOTED];
+    let mut flags = [0u64; WORDS];
     let mut at: usize = 0;
     let mut count: usize = 0;
     while at <= n {
@@ -254,6 +258,82 @@ fn literals_refusal(s: &[u8], values: &[u8]) -> u32
         }
         at = at + k + 1;
     }
+    0
+}
+
+// Words of up to this many bytes are judged and written in one pass; the places that it writes, and the bytes that stood there, are kept.
+const SHORT: usize = 128;
+
+// They are no more literals than this: each takes a byte, and a space before the next.
+const KEPT: usize = 64;
+
+// Puts the first `count` bytes back to their places, the last one first.
+fn put_back(places: &[u32; KEPT], bytes: &[u8; KEPT], count: usize, values: &mut [u8])
+    requires { ⌜ count ≤ 64 ⌝ }
+    requires { ⌜ Within (now places) count (length (now values)) ⌝ }
+    ensures { λ r. ⌜ now (values .exit) ≡ putBack count (now (places .entry)) (now (bytes .entry)) (now (values .entry)) ⌝ }
+{
+    let mut i = count;
+    while 0 < i {
+        i -= 1;
+        let p = places[i] as usize;
+        values[p] = bytes[i];
+    }
+}
+
+// Refusals 11 and 12 of the literals of the words of s, at most SHORT bytes. Where there is none, they are written.
+fn take_short(s: &[u8], values: &mut [u8]) -> u32
+    requires { ⌜ length (now s) ≤ 128 ⌝ }
+    ensures { λ r. ⌜ r ≡ literalsRefusal (named (wordsOf (now (s .entry)))) (now (values .entry)) ⌝ }
+    ensures { λ r. ⌜ now (values .exit) ≡ takenBy (named (wordsOf (now (s .entry)))) (now (values .entry)) ⌝ }
+{
+    let n = s.len();
+    let mut places = [0u32; KEPT];
+    let mut bytes = [0u8; KEPT];
+    let mut at: usize = 0;
+    let mut count: usize = 0;
+    while at <= n {
+        let rest = &s[at..];
+        let k = word_length(rest);
+        let Word::Names(l) = word_value(&rest[..k]) else {
+            return 0;
+        };
+        let v = variable_of(l);
+        if values.len() < v as usize {
+            put_back(&places, &bytes, count, values);
+            return 11;
+        }
+        let i = (v - 1) as usize;
+        let b = values[i];
+        if is_said(b) {
+            put_back(&places, &bytes, count, values);
+            return 12;
+        }
+        places[count] = v - 1;
+        bytes[count] = b;
+        values[i] = value_for(l);
+        count += 1;
+        if at + k == n {
+            return 0;
+        }
+        at = at + k + 1;
+    }
+    0
+}
+
+// The same of words of any length.
+fn take_literals(s: &[u8], values: &mut [u8]) -> u32
+    ensures { λ r. ⌜ r ≡ literalsRefusal (named (wordsOf (now (s .entry)))) (now (values .entry)) ⌝ }
+    ensures { λ r. ⌜ now (values .exit) ≡ takenBy (named (wordsOf (now (s .entry)))) (now (values .entry)) ⌝ }
+{
+    if s.len() <= SHORT {
+        return take_short(s, values);
+    }
+    let bad = literals_refusal(s, values);
+    if bad != 0 {
+        return bad;
+    }
+    write_literals(s, values);
     0
 }
 
@@ -297,14 +377,10 @@ fn read_values(reading: Reading, line: &[u8], values: &mut [u8]) -> LineRead
             reading: Reading { closed },
         };
     }
-    let bad = literals_refusal(&line[2..], values);
-    if bad != 0 {
-        return LineRead {
-            refusal: bad,
-            reading,
-        };
+    let refusal = take_literals(&line[2..], values);
+    if refusal != 0 {
+        return LineRead { refusal, reading };
     }
-    write_literals(&line[2..], values);
     LineRead {
         refusal: 0,
         reading: Reading { closed },
