@@ -1,6 +1,6 @@
 -- Laws of a constraint's terms: members, literals and the arrays that hold them. Assumes nothing.
 use mathlib.Core.Path.{_≡_, refl, sym, ap, ap₂, _∙_}
-use mathlib.Core.Bool.{true, false}
+use mathlib.Core.Bool.{Bool, true≢false, true, false, _||_}
 use mathlib.Core.List.{List, [], _∷_, map}
 use Prim.Native.Nat.{ℕ, zero, suc, _+_, _-_, _*_, _/_, _%_, _^_, _≤_, _<_}
 use native.Mathlib.Nat.{one-mul, mod-lt, zero-add}
@@ -27,9 +27,9 @@ use Rattle.model.specs.Cnf.{firstVariable, firstOutput}
 use Rattle.model.specs.Words.{less, bit, has}
 use Rattle.model.specs.Assignment.{variable}
 use Rattle.model.proofs.Words.{size-ones}
-use Rattle.model.proofs.Lists.{every-getD, each-range-ext, range-last, total-append}
+use Rattle.model.proofs.Lists.{any-map, total-const, every-getD, each-range-ext, range-last, total-append}
 use Rattle.cnf.specs.declared.Member.{Member}
-use Rattle.cnf.specs.Parts.{keptText, memberOf, memberTerm, smallMember, literalTerm, clauseOf, memberClauseText, entrantText, keptCount, entrantCount, Within}
+use Rattle.cnf.specs.Parts.{known, keptText, memberOf, memberTerm, smallMember, literalTerm, clauseOf, memberClauseText, entrantText, keptCount, entrantCount, Within}
 use Rattle.numbering.specs.Counter.{numbers, firstVariables, firstOutputs}
 use Rattle.model.specs.Limits.{limits}
 use Rattle.model.proofs.Lists.{getD-map-in, range-getD, range-length}
@@ -147,3 +147,44 @@ count-first ts us k code count w e =
     (λ j _ h. ap (λ (l : List Term). length (keep l)) (values-map (literalTerm ts) (literalTerm us) (Pos 0) (clauseOf code count j)
     (λ i l. literal-first ts k (getD (clauseOf code count j) i (Pos 0)) (w .below j i (omega arith) l)
     ∙ ap (λ (x : List Term). literalTerm x (getD (clauseOf code count j) i (Pos 0))) e)))
+
+-- ---- an entrant of whom nothing is known keeps every clause
+
+or-false : (a b : Bool) → (a || b) ≡ false → (a ≡ false) × (b ≡ false)
+or-false true b e = (e, absurd (true≢false e))
+or-false false b e = (refl, e)
+
+none-at : (p : Term → Bool) (xs : List Term) (d : Term) (i : ℕ) → any p xs ≡ false → i < length xs → p (getD xs i d) ≡ false
+none-at p [] d i e h = absurd (omega arith)
+none-at p (x ∷ xs) d zero e h = or-false (p x) (any p xs) e .0
+none-at p (x ∷ xs) d (suc i) e h = none-at p xs d i (or-false (p x) (any p xs) e .1) (omega arith)
+
+any-none : (p : Literal → Bool) (d : Literal) (xs : List Literal) → ((i : ℕ) → i < length xs → p (getD xs i d) ≡ false) → any p xs ≡ false
+any-none p d [] h = refl
+any-none p d (x ∷ xs) h = rw (h 0 (omega arith)) (any-none p d xs (λ i l. h (suc i) (omega arith)))
+
+open-both : (t : Term) → known t ≡ false → (holds t ≡ false) × (holds (oppositeTerm t) ≡ false)
+open-both (Open l) e = (refl, refl)
+open-both Holds e = (e, refl)
+open-both Fails e = (refl, e)
+
+module _ (ts : List Term) (k code count : ℕ) (w : Within k code count) (few : k ≤ length ts) (e : any known (take k ts) ≡ false) where
+  open-at : (i : ℕ) → i < k → known (getD ts i Holds) ≡ false
+  open-at i h = rw (getD-take k ts i Holds h) at (none-at known (take k ts) Holds i e (omega (arith, length-take k ts)))
+
+  literal-open : (l : Literal) → variable l < k → holds (literalTerm ts l) ≡ false
+  literal-open (Pos i) h = open-both (getD ts i Holds) (open-at i h) .0
+  literal-open (Neg i) h = open-both (getD ts i Holds) (open-at i h) .1
+
+  kept-one : (j : ℕ) → j < length (memberClauses code count) → keptCount ts code count j ≡ 1
+  kept-one j h =
+      sym (counted-once ts code count j
+      (any-map holds (literalTerm ts) (clauseOf code count j)
+      ∙ any-none (λ l. holds (literalTerm ts l)) (Pos 0) (clauseOf code count j)
+      (λ i l. literal-open (getD (clauseOf code count j) i (Pos 0)) (w .below j i h l))))
+
+  pub all-kept : entrantCount ts code count ≡ length (memberClauses code count)
+  unfolding entrantCount
+  all-kept =
+      total-const (keptCount ts code count) 1 0 (length (memberClauses code count)) (λ j _ h. kept-one j (omega arith))
+      ∙ omega arith

@@ -35,6 +35,12 @@ termText Holds = []
 termText Fails = []
 termText (Open l) = literalText l
 
+-- whether a term is known before the solver runs
+abbrev pub known : Term → Bool
+known Holds = true
+known Fails = true
+known (Open l) = false
+
 -- the clause of these terms, or nothing where one of them is true
 unfoldable pub keptText : List Term → List ℕ
 keptText ts = each clauseText (keep ts)

@@ -17,7 +17,7 @@ ghost use Rattle.model.specs.Text.{decimal, literalText, clauseText, headerText
 ghost use Rattle.numbering.specs.Counter.{firstVariables, firstOutputs};
 ghost use Rattle.cnf.specs.Wrote.{Wrote};
 ghost use Rattle.cnf.specs.Run.{runOf, runBuffer};
-ghost use Rattle.cnf.specs.Parts.{spaced, termText, keptText, outputText, pairText, rowText, nodeText, treeText, signed, unitText, groupText, memberOf, memberTerm, smallMember, literalTerm, clauseOf, memberClauseText, entrantText, constraintText, keptCount, entrantCount, constraintCount, countsText, blockLength, judgement, Small, Steady, Steadies, Fitting, Within, Settled};
+ghost use Rattle.cnf.specs.Parts.{spaced, known, termText, keptText, outputText, pairText, rowText, nodeText, treeText, signed, unitText, groupText, memberOf, memberTerm, smallMember, literalTerm, clauseOf, memberClauseText, entrantText, constraintText, keptCount, entrantCount, constraintCount, countsText, blockLength, judgement, Small, Steady, Steadies, Fitting, Within, Settled};
 use model::Constraint;
 use model::Group;
 use model::Literal;
@@ -728,6 +728,45 @@ fn entrant_count(ts: [Term; Model::MEMBERS], code: u32, count: u32) -> u32
     r
 }
 
+fn is_known(t: Term) -> bool
+    ensures { λ r. ⌜ r ≡ known t ⌝ }
+{
+    match t {
+        Term::Holds => true,
+        Term::Fails => true,
+        Term::Open(_) => false,
+    }
+}
+
+// Whether one of the first k terms is known.
+fn any_known(ts: [Term; Model::MEMBERS], k: usize) -> bool
+    requires { ⌜ k ≤ limits .members ⌝ }
+    ensures { λ r. ⌜ r ≡ any known (take k ts) ⌝ }
+{
+    let mut i: usize = 0;
+    while i < k {
+        let t = ts[i];
+        if is_known(t) {
+            return true;
+        }
+        i += 1;
+    }
+    false
+}
+
+// The same as entrant_count, of which k members are enough: where none of their terms is known, no clause is left out.
+fn entrant_total(ts: [Term; Model::MEMBERS], k: usize, code: u32, count: u32) -> u32
+    requires { ⌜ k ≤ limits .members ⌝ }
+    requires { ⌜ Fitting code count × Within k code count ⌝ }
+    requires { ⌜ length (memberClauses code count) ≤ 100 ⌝ }
+    ensures { λ r. ⌜ (r ≡ entrantCount ts code count) × (r ≤ length (memberClauses code count)) ⌝ }
+{
+    if any_known(ts, k) {
+        return entrant_count(ts, code, count);
+    }
+    constraint::clause_count(code, count) as u32
+}
+
 // Of a constraint of k members, for n entrants.
 fn constraint_count(ms: [Member; Model::MEMBERS], k: usize, code: u32, count: u32, n: u32) -> u32
     requires { ⌜ (k ≤ limits .members) × (n ≤ 32) ⌝ }
@@ -740,7 +779,7 @@ fn constraint_count(ms: [Member; Model::MEMBERS], k: usize, code: u32, count: u3
     let mut e = 0;
     while e < n {
         let ts = member_terms(ms, k, e);
-        r += entrant_count(ts, code, count);
+        r += entrant_total(ts, k, code, count);
         e += 1;
     }
     r

@@ -22,11 +22,11 @@ loop-holds c = (omega arith, refl, omega arith)
 member-terms-requires : tie.Need-member-terms-requires Inv-loop μ-loop
 member-terms-requires c κs = (((c .before .before .pre .0 .0), omega arith), (c .before .before .pre .1 .1 .1))
 
-entrant-count-requires : tie.Need-entrant-count-requires Inv-loop μ-loop
-entrant-count-requires c κs = ((c .before .before .before .pre .1 .0 .0), (c .before .before .before .pre .1 .1 .0))
+entrant-total-requires : tie.Need-entrant-total-requires Inv-loop μ-loop
+entrant-total-requires c κs = ((c .before .before .before .pre .0 .0), ((c .before .before .before .pre .1 .0), (c .before .before .before .pre .1 .1 .0)))
 
 add-r : tie.Need-add-r Inv-loop μ-loop
-add-r c = omega (arith, (c .entrant-count .ensures .1), (c .before .before .before .loop .inv .2), (c .before .before .before .before .pre .1 .1 .0))
+add-r c = omega (arith, (c .entrant-total .ensures .1), (c .before .before .before .loop .inv .2), (c .before .before .before .before .pre .1 .1 .0))
 
 add-e : tie.Need-add-e Inv-loop μ-loop
 add-e c = omega arith
@@ -35,7 +35,7 @@ loop-less : tie.Need-loop-less Inv-loop μ-loop
 loop-less c = omega arith
 
 loop-again : tie.Need-loop-again Inv-loop μ-loop
-loop-again c = (omega arith, omega (arith, (c .before .before .before .loop .inv .1), (c .entrant-count .ensures .0), count-first (c .before .member-terms .result) _ (c .before .before .before .before .args .k) (c .before .before .before .before .args .code) (c .before .before .before .before .args .count) (c .before .before .before .before .pre .1 .0 .1) (c .before .member-terms .ensures .1), total-last (λ i. entrantCount (map (memberTerm i) (take (c .before .before .before .before .args .k) (c .before .before .before .before .args .ms))) (c .before .before .before .before .args .code) (c .before .before .before .before .args .count)) (c .before .before .before .loop .e)), omega (arith, (c .entrant-count .ensures .1), (c .before .before .before .loop .inv .2), (c .before .before .before .before .pre .1 .1 .0)))
+loop-again c = (omega arith, omega (arith, (c .before .before .before .loop .inv .1), (c .entrant-total .ensures .0), count-first (c .before .member-terms .result) _ (c .before .before .before .before .args .k) (c .before .before .before .before .args .code) (c .before .before .before .before .args .count) (c .before .before .before .before .pre .1 .0 .1) (c .before .member-terms .ensures .1), total-last (λ i. entrantCount (map (memberTerm i) (take (c .before .before .before .before .args .k) (c .before .before .before .before .args .ms))) (c .before .before .before .before .args .code) (c .before .before .before .before .args .count)) (c .before .before .before .loop .e)), omega (arith, (c .entrant-total .ensures .1), (c .before .before .before .loop .inv .2), (c .before .before .before .before .pre .1 .1 .0)))
 
 returns : tie.Need-returns Inv-loop μ-loop
 unfolding constraintCount
@@ -49,7 +49,7 @@ constraint-count-spec =
     μ-loop
     loop-holds
     member-terms-requires
-    entrant-count-requires
+    entrant-total-requires
     add-r
     add-e
     loop-less
