@@ -1,15 +1,14 @@
 -- Judging a line's literals against the values as they came and the literals before them is judging them against the values as they would become.
 -- Assumes nothing.
-use Prim.Native.Nat.{ℕ, zero, suc, _+_, _-_, _≤_, _<_}
-use mathlib.Core.Path.{_≡_, refl, ap, ap₂, sym, _∙_, subst}
-use mathlib.Core.Bool.{Bool, true, false, cond, _||_}
+use Prim.Native.Nat.{ℕ, suc, _+_, _-_, _≤_, _<_}
+use mathlib.Core.Path.{_≡_, refl, ap, sym, _∙_, subst}
+use mathlib.Core.Bool.{Bool, true, false, _||_}
 use mathlib.Core.List.{List, [], _∷_, _++_, append-assoc}
 use native.Mathlib.Decide.{ℕ-discrete}
 use native.Mathlib.Omega.{arith}
-use native.Mathlib.Numerals.{add-one}
 use borrow.Author.Tests.{eq-eqb, ne-eqb, ltb-false, lt-ltb, le-ltb}
 use lib.Dec.{ltb, eqb}
-use lib.ListN.{length, getD, set, take, drop, length-set, length-append, length-take}
+use lib.ListN.{length, getD, set, take, drop, length-set, length-append}
 use lib.Seq.{getD-set-same, getD-set-other, take-at}
 use Rattle.model.specs.declared.Literal.{Literal}
 use Rattle.model.specs.declared.Literal.the-variants.{Pos, Neg}
@@ -17,7 +16,7 @@ use Rattle.model.specs.declared.Word.{Word}
 use Rattle.model.specs.declared.Word.the-variants.{Names, Closing, Malformed}
 use Rattle.model.specs.Lists.{stop}
 use Rattle.model.specs.Assignment.{wordsOf, wordValue, isSaid, variable, valueFor, withValue, literalsRefusal, withValues}
-use Rattle.model.proofs.Lists.{All, all-append, or-assoc}
+use Rattle.model.proofs.Lists.{or-false, All, all-append, or-assoc}
 use Rattle.model.proofs.Solver.{Named, word-named}
 use Rattle.assignment.specs.Line.{wordLength, ifNames, named, names?, judged, Noted, notedWith}
 use Rattle.assignment.proofs.Words.{is-some, is-last, is-more, isNames, named-names, named-end, noted-next}
@@ -56,10 +55,6 @@ one-said l n values i h = go (ℕ-discrete i (variable l - 1))
     or-true true = refl
     or-true false = refl
 
-    or-false : (a : Bool) → (a || false) ≡ a
-    or-false true = refl
-    or-false false = refl
-
     go : Dec (i ≡ variable l - 1) → isSaid (getD (set values (variable l - 1) (valueFor l)) i 0) ≡ (isSaid (getD values i 0) || eqb (variable l) (suc i))
     go (yes q) =
         rw (eq-eqb (variable l) (suc i) (omega (arith, q, n)))
@@ -73,10 +68,6 @@ one-said l n values i h = go (ℕ-discrete i (variable l - 1))
 said-after : (ls : List Literal) → All Named ls → (values : List ℕ) (i : ℕ) → i < length values
     → isSaid (getD (withValues ls values) i 0) ≡ (isSaid (getD values i 0) || names? (suc i) ls)
 said-after [] n values i h = sym (or-false (isSaid (getD values i 0)))
-  where
-    or-false : (a : Bool) → (a || false) ≡ a
-    or-false true = refl
-    or-false false = refl
 said-after (l ∷ ls) n values i h =
     said-after ls (n .1) (withValue l values) i (subst (λ (k : ℕ). i < k) (sym (with-length (l ∷ []) values)) h)
     ∙ ap (λ (b : Bool). b || names? (suc i) ls) (one-said l (n .0) values i h)

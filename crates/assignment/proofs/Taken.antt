@@ -13,7 +13,7 @@ use Rattle.model.specs.declared.Literal.{Literal}
 use Rattle.model.specs.declared.Word.the-variants.{Names}
 use Rattle.model.specs.Assignment.{wordsOf, wordValue, isSaid, variable, valueFor, withValue, literalsRefusal, withValues}
 use Rattle.model.proofs.Solver.{word-named}
-use Rattle.assignment.specs.Line.{wordLength, named, Within, putBack, takenBy}
+use Rattle.assignment.specs.Line.{wordLength, named, PlacesBelow, putBack, takenBy}
 use Rattle.assignment.proofs.Words.{k-le, word-size, is-some, is-last, is-more, isNames, named-names, named-end}
 
 -- ---- after literals that are all good, and after a refusal
@@ -41,8 +41,8 @@ module _ (places bytes values : List ℕ) (n p x : ℕ) (in-places : n < length 
       rw (getD-set-same places n p 0 in-places, getD-set-same bytes n (getD values p 0) 0 in-bytes, set-set values p x (getD values p 0), set-getD values p 0)
       (back-other n places bytes values n p (getD values p 0) (omega arith))
 
-  within-next : p < length values → Within places n (length values) → Within (set places n p) (suc n) (length values)
-  within-next h w = record { at = λ i l. go i l (ℕ-discrete i n) }
+  places-next : p < length values → PlacesBelow places n (length values) → PlacesBelow (set places n p) (suc n) (length values)
+  places-next h w = record { at = λ i l. go i l (ℕ-discrete i n) }
     where
       go : (i : ℕ) → i < suc n → Dec (i ≡ n) → getD (set places n p) i 0 < length values
       go i l (yes q) = rw (q, getD-set-same places n p 0 in-places) h
@@ -57,7 +57,7 @@ pub record Taking (s start values places bytes : List ℕ) (at count : ℕ) : Ty
   pub same : literalsRefusal (named (wordsOf s)) start ≡ literalsRefusal (named (wordsOf (drop at s))) values
   pub wrote : withValues (named (wordsOf s)) start ≡ withValues (named (wordsOf (drop at s))) values
   pub back : putBack count places bytes values ≡ start
-  pub within : Within places count (length values)
+  pub within : PlacesBelow places count (length values)
   pub in-places : length places ≡ 64
   pub in-bytes : length bytes ≡ 64
 
@@ -174,7 +174,7 @@ module _ {s start values places bytes : List ℕ} {at count : ℕ} (h : Taking s
               same = judged (wordsOf (drop (at + k + 1) s)) w;
               wrote = written (wordsOf (drop (at + k + 1) s)) w;
               back = rw (add-one count) (back-next places bytes values count (v - 1) x a b ∙ h .back);
-              within = rw (add-one count, n) (within-next places bytes values count (v - 1) x a b i (h .within));
+              within = rw (add-one count, n) (places-next places bytes values count (v - 1) x a b i (h .within));
               in-places = length-set places count (v - 1) ∙ h .in-places;
               in-bytes = length-set bytes count (getD values (v - 1) 0) ∙ h .in-bytes;
             }

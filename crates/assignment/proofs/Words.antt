@@ -1,10 +1,9 @@
 -- The words of a line one by one: what stands from place `at` on. Assumes nothing.
-use Prim.Native.Nat.{ℕ, zero, suc, _+_, _-_, _*_, _/_, _%_, _^_, _≤_, _<_, min}
+use Prim.Native.Nat.{ℕ, zero, suc, _+_, _-_, _/_, _%_, _^_, _≤_, _<_, min}
 use mathlib.Core.Path.{_≡_, refl, ap, sym, _∙_, subst}
 use mathlib.Core.Bool.{Bool, true, false, cond, _||_}
 use mathlib.Core.List.{List, [], _∷_, _++_}
 use mathlib.Core.Option.{Option, none, some}
-use native.Mathlib.Nat.{one-mul}
 use native.Mathlib.Numerals.{add-one}
 use native.Mathlib.Decide.{decLt, ℕ-discrete}
 use native.Mathlib.Omega.{arith}
@@ -15,7 +14,6 @@ use Rattle.model.proofs.Word.{the-type}
 use Rattle.model.proofs.Solver.{word-named}
 use lib.Bits.{bitOr}
 use lib.Dec.{ltb, eqb}
-use lib.Pow.{shl-exact}
 use lib.ListN.{length, take, drop, getD, set, replicate, length-take, length-drop, length-set, length-replicate, getD-replicate}
 use lib.Seq.{take-all, take-nil, drop-drop, getD-set-same, getD-set-other}
 use Rattle.model.specs.declared.Literal.{Literal}
@@ -24,13 +22,12 @@ use Rattle.model.specs.declared.Word.the-variants.{Names, Closing, Malformed}
 use Rattle.model.specs.Lists.{stop}
 use Rattle.model.specs.Words.{has}
 use Rattle.model.specs.Sheet.{onFirst}
-use Rattle.model.specs.Assignment.{wordsOf, wordValue, Said, nothingSaid, withLiteral, sayWord, sayWords, isSaid, variable, valueFor, withValue, literalsRefusal, withValues}
-use Rattle.model.proofs.Lists.{any-append}
+use Rattle.model.specs.Assignment.{wordsOf, wordValue, Said, nothingSaid, withLiteral, sayWords, isSaid, variable, valueFor, withValue, literalsRefusal, withValues}
+use Rattle.model.proofs.Lists.{or-false, any-append}
 use Rattle.model.proofs.Loops.{drop-next}
 use Rattle.model.proofs.Words.{has-zero, has-or, has-first, has-next}
-use Rattle.assignment.specs.declared.Form.{Form}
 use Rattle.assignment.specs.declared.Form.the-variants.{Wrong, Open, Closed}
-use Rattle.assignment.specs.Line.{wordLength, formFrom, ifNames, named, names?, judged, Noted, withFlag, notedWith}
+use Rattle.assignment.specs.Line.{wordLength, formFrom, ifNames, named, names?, Noted, withFlag, notedWith}
 
 module _ (l : List ℕ) (i : ℕ) (h : i < length l) where
   pub word-more : (getD l i 0 ≡ 32 → ⊥) → wordLength (drop i l) ≡ suc (wordLength (drop (i + 1) l))
@@ -246,10 +243,6 @@ module _ (s : List ℕ) (v at k : ℕ) (place : at ≤ length s) (e : k ≡ word
 
 -- ---- flags
 
--- `1 << e` has bit e and no other
-pub shifted : (e : ℕ) → e < 64 → 1 * 2 ^ e % 2 ^ 64 ≡ 2 ^ e
-shifted e h = shl-exact 1 e 64 (omega arith) (omega arith) ∙ one-mul (2 ^ e)
-
 same-test : (a b c d : ℕ) → (a ≡ b → c ≡ d) → (c ≡ d → a ≡ b) → eqb a b ≡ eqb c d
 same-test a b c d to from = go (ℕ-discrete a b)
   where
@@ -264,10 +257,6 @@ has-power (suc e) zero = has-first (2 ^ suc e) ∙ same-test (2 ^ suc e % 2) 1 (
 has-power (suc e) (suc j) =
     let h : 2 ^ suc e / 2 ≡ 2 ^ e = omega arith in
     has-next (2 ^ suc e) j ∙ ap (λ (w : ℕ). has w j) h ∙ has-power e j ∙ same-test e j (suc e) (suc j) (λ q. omega arith) (λ q. omega arith)
-
-or-false : (a : Bool) → (a || false) ≡ a
-or-false true = refl
-or-false false = refl
 
 -- flag j after flag i is set
 flag-set : (flags : List ℕ) (i j : ℕ) → i / 64 < length flags

@@ -1,7 +1,7 @@
 -- What the line reader's helpers answer, in the definitions' terms.
 use mathlib.Core.Path.{_≡_}
 use Prim.Native.Nat.{ℕ, zero, suc, _-_, _/_, _%_, _^_, _<_}
-use mathlib.Core.Bool.{Bool, true, false, cond, _||_}
+use mathlib.Core.Bool.{Bool, true, false, cond}
 use mathlib.Core.List.{List, [], _∷_, _++_}
 use mathlib.Core.Option.{Option, none, some}
 use lib.Bits.{bitOr}
@@ -80,7 +80,7 @@ notedWith v flags = cond (ltb (v - 1) 65536) (withFlag (v - 1) flags) flags
 -- ---- a short line: the places that it writes, and the bytes that stood there
 
 -- the first n places lie below a length
-pub record Within (places : List ℕ) (n size : ℕ) : Type 0 where
+pub record PlacesBelow (places : List ℕ) (n size : ℕ) : Type 0 where
   pub at : (i : ℕ) → i < n → getD places i 0 < size
 
 -- the first n bytes back at their places, the last one first

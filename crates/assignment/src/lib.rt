@@ -1,12 +1,10 @@
 // Solver lines: the form of the whole line first, then its literals one by one. A refused line changes no value.
 ghost use mathlib.Core.Path.{_≡_};
 ghost use mathlib.Core.Bool.{false};
-ghost use Prim.Native.Nat.{ℕ, _≤_, _<_, _+_};
-ghost use mathlib.Core.List.{List};
-ghost use lib.Dec.{eqb};
-ghost use lib.ListN.{length, getD, take, set};
+ghost use Prim.Native.Nat.{_≤_, _<_, _+_};
+ghost use lib.ListN.{length, getD, take};
 ghost use Rattle.model.specs.Assignment.{wordsOf, variableIn, wordValue, sayWords, formOf, isSaid, variable, valueFor, literalsRefusal, withValues, lineRead, valuesAfter};
-ghost use Rattle.assignment.specs.Line.{wordLength, asOption, formFrom, named, names?, isWrong, isClosed, Noted, notedWith, Within, putBack, takenBy};
+ghost use Rattle.assignment.specs.Line.{wordLength, asOption, formFrom, named, names?, isWrong, isClosed, Noted, notedWith, PlacesBelow, putBack, takenBy};
 use model::Digits;
 use model::LineRead;
 use model::Literal;
@@ -270,7 +268,7 @@ const KEPT: usize = 64;
 // Puts the first `count` bytes back to their places, the last one first.
 fn put_back(places: &[u32; KEPT], bytes: &[u8; KEPT], count: usize, values: &mut [u8])
     requires { ⌜ count ≤ 64 ⌝ }
-    requires { ⌜ Within (now places) count (length (now values)) ⌝ }
+    requires { ⌜ PlacesBelow (now places) count (length (now values)) ⌝ }
     ensures { λ r. ⌜ now (values .exit) ≡ putBack count (now (places .entry)) (now (bytes .entry)) (now (values .entry)) ⌝ }
 {
     let mut i = count;

@@ -2,6 +2,7 @@
 ghost use mathlib.Core.Path.{_≡_};
 ghost use Prim.Native.Nat.{_≤_};
 ghost use lib.ListN.{length};
+ghost use Rattle.model.specs.Limits.{limits};
 use libc::STDIN_FILENO;
 use libc::STDOUT_FILENO;
 use model::Model;
@@ -10,12 +11,9 @@ use model::Written;
 // What the buffer holds before a block is written.
 const FILL: u8 = 255;
 
-// No listing has a block above this one.
-const LAST: u32 = (Model::GROUPS + Model::CONSTRAINTS) as u32;
-
 // Room for any block. Only its length is told: the list of its bytes is too long for the prover to look at.
 fn filled() -> [u8; Model::BLOCK_BYTES]
-    ensures { λ r. ⌜ length r ≡ 32768 ⌝ }
+    ensures { λ r. ⌜ length r ≡ limits .block ⌝ }
 {
     [FILL; Model::BLOCK_BYTES]
 }
@@ -40,7 +38,7 @@ struct Tried {
 }
 
 fn try_block(m: Model, b: u32, room: usize) -> Tried
-    requires { ⌜ room ≤ 32768 ⌝ }
+    requires { ⌜ room ≤ limits .block ⌝ }
     ensures { λ r. ⌜ r .length ≤ room ⌝ }
 {
     let mut all = filled();
@@ -111,12 +109,9 @@ fn print_block(m: Model, b: u32) {
 }
 
 fn print_blocks(m: Model) {
-    let last = m.s as u64 + m.c as u64;
+    let last = cnf::block_count(m);
     let mut b: u32 = 0;
-    while b <= LAST {
-        if last < b as u64 {
-            return;
-        }
+    while b <= last {
         print_block(m, b);
         b += 1;
     }

@@ -1,10 +1,11 @@
 -- What the entry answers: a refusal, or the block's text. Assumes nothing.
 use mathlib.Core.Path.{_≡_, refl, sym, ap, _∙_, subst}
-use mathlib.Core.Bool.{Bool, true, false, cond, not, _&&_}
+use mathlib.Core.Bool.{Bool, true, false, cond, not}
 use mathlib.Core.List.{List, _++_}
 use Prim.Native.Nat.{ℕ, zero, suc, _+_, _≤_, _<_}
 use native.Mathlib.Nat.{zero-add}
 use native.Mathlib.Omega.{arith}
+use native.Mathlib.Decide.{decLt}
 use borrow.Author.Tests.{lt-ltb, le-ltb, ne-eqb}
 use lib.Dec.{T, ltb, eqb, eqb·suc-zero, nltb→le}
 use lib.ListN.{length, drop}
@@ -14,40 +15,37 @@ use Rattle.model.specs.declared.Written.the-variants.{Bytes, Refused}
 use Rattle.model.specs.Lists.{stop}
 use Rattle.model.specs.Limits.{limits}
 use Rattle.model.specs.Model.{inRange}
-use Rattle.model.specs.Propagate.{isFixpoint}
+use Rattle.model.specs.Propagate.{isFixpoint, unsettledOr, Settled}
+use Rattle.model.specs.Cnf.{blockCount}
 use Rattle.model.specs.Text.{blockText, hasEmptyClause, blockRefusal, writtenBlock, writtenRefusal, writtenLength, blockBuffer}
-use Rattle.model.proofs.Lists.{T-true, T-false, true-T}
-use Rattle.encoding_laws.proofs.Fixpoint.{in-range}
+use Rattle.model.proofs.Lists.{T-false, true-T}
+use Rattle.model.proofs.Refusals.{settled-rest, rest-settled, unsettled-first}
+use Rattle.propagation_laws.proofs.Ranges.{in-range}
 use Rattle.encoding_laws.proofs.Nonempty.{no-empty-clause}
 use Rattle.cnf.specs.Wrote.{Wrote}
-use Rattle.cnf.specs.Parts.{judgement, blockLength, Settled}
+use Rattle.cnf.specs.Parts.{judgement, blockLength}
 
 -- ---- what is judged first
 
-module _ (m : Model) (b : ℕ) where
-  pub judge-20 : inRange m ≡ false → 20 ≡ judgement m b
+module _ (m : Model) (b r : ℕ) (e : r ≡ unsettledOr m 0) where
+  pub judge-unsettled : (r ≡ 0 → ⊥) → r ≡ judgement m b
   unfolding judgement
-  judge-20 e = rw e
+  judge-unsettled h = e ∙ sym (unsettled-first m (λ z. h (e ∙ z)) (stop (ltb (blockCount m) b) 23 0))
 
-  module _ (e : inRange m ≡ true) where
-    pub judge-22 : (inRange m && isFixpoint m) ≡ false → 22 ≡ judgement m b
+  module _ (z : r ≡ 0) where
+    pub judged-range : T (inRange m)
+    judged-range = rest-settled m (sym e ∙ z) .0
+
+    after : (rest : ℕ) → unsettledOr m rest ≡ rest
+    after = settled-rest m judged-range (rest-settled m (sym e ∙ z) .1)
+
+    pub judge-23 : (k : ℕ) → k ≡ blockCount m → k < b → 23 ≡ judgement m b
     unfolding judgement
-    judge-22 h = let q : isFixpoint m ≡ false = rw e at h in rw (e, q)
+    judge-23 k q l = sym (after (stop (ltb (blockCount m) b) 23 0) ∙ rw (lt-ltb (blockCount m) b (omega arith)))
 
-    module _ (h : (inRange m && isFixpoint m) ≡ true) where
-      at-fixpoint : isFixpoint m ≡ true
-      at-fixpoint = rw e at h
-
-      pub judge-23 : m .s + m .c < b → 23 ≡ judgement m b
-      unfolding judgement
-      judge-23 l = rw (e, at-fixpoint, lt-ltb (m .s + m .c) b l)
-
-      pub judge-0 : b ≤ m .s + m .c → 0 ≡ judgement m b
-      unfolding judgement
-      judge-0 l = rw (e, at-fixpoint, le-ltb (m .s + m .c) b l)
-
-    pub sum-small : m .s + m .c < 1000
-    sum-small = let i = in-range m (true-T (inRange m) e) in omega (arith, i .groupCount, i .constraintCount)
+    pub judge-0 : (k : ℕ) → k ≡ blockCount m → b ≤ k → 0 ≡ judgement m b
+    unfolding judgement
+    judge-0 k q l = sym (after (stop (ltb (blockCount m) b) 23 0) ∙ rw (le-ltb (blockCount m) b (omega arith)))
 
 -- ---- refused before the buffer is looked at
 
@@ -56,19 +54,23 @@ module _ (m : Model) (b room : ℕ) where
   abbrev rest : ℕ
   rest = stop (hasEmptyClause m b) 29 (stop (ltb room (length (blockText m b))) 24 0)
 
-  refusal-is : blockRefusal m b room ≡ stop (not (inRange m)) 20 (stop (not (isFixpoint m)) 22 (stop (ltb (m .s + m .c) b) 23 rest))
-  unfolding blockRefusal
-  refusal-is = refl
-
   refused-first : (judgement m b ≡ 0 → ⊥) → blockRefusal m b room ≡ judgement m b
-  unfolding judgement
-  refused-first h = refusal-is ∙ go (not (inRange m)) (not (isFixpoint m)) (ltb (m .s + m .c) b) h
+  unfolding blockRefusal judgement
+  refused-first h = go (decLt 0 (unsettledOr m 0))
     where
-      go : (x y w : Bool) → (stop x 20 (stop y 22 (stop w 23 0)) ≡ 0 → ⊥) → stop x 20 (stop y 22 (stop w 23 rest)) ≡ stop x 20 (stop y 22 (stop w 23 0))
-      go true y w h = refl
-      go false true w h = refl
-      go false false true h = refl
-      go false false false h = absurd (h refl)
+      own : (x : Bool) → (stop x 23 0 ≡ 0 → ⊥) → stop x 23 rest ≡ stop x 23 0
+      own true h = refl
+      own false h = absurd (h refl)
+
+      go : Dec (0 < unsettledOr m 0) → unsettledOr m (stop (ltb (blockCount m) b) 23 rest) ≡ unsettledOr m (stop (ltb (blockCount m) b) 23 0)
+      go (yes l) =
+          let n : unsettledOr m 0 ≡ 0 → ⊥ = λ z. omega arith in
+          unsettled-first m n (stop (ltb (blockCount m) b) 23 rest) ∙ sym (unsettled-first m n (stop (ltb (blockCount m) b) 23 0))
+      go (no l) =
+          let s = rest-settled m (omega arith) in
+          let a = settled-rest m (s .0) (s .1) in
+          a (stop (ltb (blockCount m) b) 23 rest) ∙ own (ltb (blockCount m) b) (λ z. h (a (stop (ltb (blockCount m) b) 23 0) ∙ z))
+          ∙ sym (a (stop (ltb (blockCount m) b) 23 0))
 
   pub written-refused : (r : ℕ) → r ≡ judgement m b → (r ≡ 0 → ⊥) → Refused r ≡ writtenBlock m b room
   unfolding writtenBlock
@@ -84,47 +86,38 @@ buffer-refused m b buf r e h =
 
 -- ---- not refused
 
-pub record Fine (m : Model) (b : ℕ) : Type 0 where
-  pub range-is : T (inRange m)
-  pub fixpoint : T (isFixpoint m)
-  pub block : b ≤ m .s + m .c
+module _ (m : Model) (b r : ℕ) (e : r ≡ judgement m b) (z : r ≡ 0) where
+  tests : (T (inRange m) × T (isFixpoint m)) × (b ≤ blockCount m)
+  unfolding judgement unsettledOr
+  tests = go (inRange m) refl (isFixpoint m) refl (ltb (blockCount m) b) refl (sym e ∙ z)
+    where
+      go : (x : Bool) → inRange m ≡ x → (y : Bool) → isFixpoint m ≡ y → (w : Bool) → ltb (blockCount m) b ≡ w
+          → stop (not x) 20 (stop (not y) 22 (stop w 23 0)) ≡ 0 → (T (inRange m) × T (isFixpoint m)) × (b ≤ blockCount m)
+      go false p y q w s h = absurd (omega arith)
+      go true p false q w s h = absurd (omega arith)
+      go true p true q true s h = absurd (omega arith)
+      go true p true q false s h = ((true-T (inRange m) p, true-T (isFixpoint m) q), nltb→le (blockCount m) b (subst (λ (v : Bool). T (not v)) (sym s) tt))
 
-pub fine : (m : Model) (b r : ℕ) → r ≡ judgement m b → r ≡ 0 → Fine m b
-unfolding judgement
-fine m b r e z = go (inRange m) refl (isFixpoint m) refl (ltb (m .s + m .c) b) refl (sym e ∙ z)
-  where
-    go : (x : Bool) → inRange m ≡ x → (y : Bool) → isFixpoint m ≡ y → (w : Bool) → ltb (m .s + m .c) b ≡ w
-        → stop (not x) 20 (stop (not y) 22 (stop w 23 0)) ≡ 0 → Fine m b
-    go false p y q w s h = absurd (omega arith)
-    go true p false q w s h = absurd (omega arith)
-    go true p true q true s h = absurd (omega arith)
-    go true p true q false s h = record {
-      range-is = true-T (inRange m) p;
-      fixpoint = true-T (isFixpoint m) q;
-      block = nltb→le (m .s + m .c) b (subst (λ (v : Bool). T (not v)) (sym s) tt);
-    }
+  pub judged-block : b ≤ blockCount m
+  judged-block = tests .1
 
-pub settled-of : (m : Model) (b : ℕ) → Fine m b → length (m .groups) ≡ limits .groups → length (m .constraints) ≡ limits .constraints → Settled m
-settled-of m b f g c =
-    let i = in-range m (f .range-is) in
-    record {
-      range-is = f .range-is;
-      fixpoint = f .fixpoint;
-      sized = record { groups = omega (arith, i .groupCount); constraints = omega (arith, i .constraintCount) };
-    }
+  pub judged-settled : length (m .groups) ≡ limits .groups → length (m .constraints) ≡ limits .constraints → Settled m
+  judged-settled g c =
+      let i = in-range m (tests .0 .0) in
+      record {
+        in-range = tests .0 .0;
+        fixpoint = tests .0 .1;
+        sized = record { groups = omega (arith, i .groupCount); constraints = omega (arith, i .constraintCount) };
+      }
 
 -- ---- a settled model's block
 
-module _ (m : Model) (g : Settled m) (b : ℕ) (h : b ≤ m .s + m .c) where
+module _ (m : Model) (q : Settled m) (b : ℕ) (h : b ≤ blockCount m) where
   judged-24 : (room : ℕ) → blockRefusal m b room ≡ stop (ltb room (length (blockText m b))) 24 0
   unfolding blockRefusal
   judged-24 room =
-      rw (
-        T-true (inRange m) (g .range-is),
-        T-true (isFixpoint m) (g .fixpoint),
-        le-ltb (m .s + m .c) b h,
-        T-false (hasEmptyClause m b) (no-empty-clause m (g .range-is) (g .fixpoint) (g .sized) b),
-      )
+      settled-rest m (q .in-range) (q .fixpoint) _
+      ∙ rw (le-ltb (blockCount m) b h, T-false (hasEmptyClause m b) (no-empty-clause m q b))
 
   pub too-short : (room : ℕ) → room < length (blockText m b) → Refused 24 ≡ writtenBlock m b room
   unfolding writtenBlock

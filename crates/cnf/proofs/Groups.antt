@@ -12,13 +12,15 @@ use Rattle.model.specs.Model.{zeroGroup}
 use Rattle.model.specs.Totalizer.{totalizerClauses, treeClauseCount}
 use Rattle.model.specs.Cnf.{openCount, atLeast, atMost, counted, groupClauseCount}
 use Rattle.model.specs.Text.{clauseText}
-use Rattle.model.proofs.Lists.{total-append, true-T}
-use Rattle.encoding_laws.proofs.Whole.{counted-pos}
-use Rattle.numbering.specs.declared.Counter.{Counter}
-use Rattle.numbering.specs.Counter.{counterOf}
+use Rattle.model.specs.Limits.{limits}
+use Rattle.model.proofs.Lists.{total-append, true-T, All, all-place}
+use Rattle.encoding_laws.proofs.Fixpoint.{SettledAmong}
+use Rattle.encoding_laws.proofs.Whole.{OpenLimits, limits-of, counted-pos}
+use Rattle.numbering.specs.declared.Totalizer.{Totalizer}
+use Rattle.numbering.specs.Numbering.{totalizerOf}
 use Rattle.numbering.proofs.Arrays.{next-take}
-use Rattle.numbering.proofs.Counters.{counter-parts}
-use Rattle.cnf.specs.Parts.{groupText, Steady, Steadies}
+use Rattle.numbering.proofs.Totalizers.{totalizer-parts}
+use Rattle.cnf.specs.Parts.{groupText}
 
 -- ---- one group
 
@@ -31,10 +33,20 @@ module _ (g : Group) (e : counted g ≡ false) where
   unfolding groupClauseCount
   none-clauses = rw e
 
-module _ (g : Group) (s : Steady g) (e : counted g ≡ true) where
+module _ (g : Group) (s : SettledAmong (limits .entrants) g) where
+  abbrev open-limits : OpenLimits g
+  open-limits = limits-of g (s .group)
+
+  pub low-few : atLeast g ≤ openCount g
+  low-few = open-limits .low-open
+
+  pub high-few : atMost g ≤ openCount g
+  high-few = open-limits .high-open
+
+module _ (g : Group) (s : SettledAmong (limits .entrants) g) (e : counted g ≡ true) where
   pub some-open : 1 ≤ openCount g
   unfolding counted
-  some-open = counted-pos (atLeast g) (atMost g) (openCount g) (omega (arith, s .low-high, s .high-open)) (true-T (counted g) e)
+  some-open = counted-pos (atLeast g) (atMost g) (openCount g) (low-few g s) (true-T (counted g) e)
 
   pub some-text : (v o : ℕ) → groupText g v o ≡ each clauseText (totalizerClauses (openCount g) v o (atLeast g) (atMost g))
   unfolding groupText
@@ -44,11 +56,11 @@ module _ (g : Group) (s : Steady g) (e : counted g ≡ true) where
   unfolding groupClauseCount
   some-clauses = rw e
 
-module _ (g : Group) (r : Counter) (e : r ≡ counterOf g) where
-  pub counter-text : Steady g → r .exists ≡ true → (v o : ℕ)
-      → each clauseText (totalizerClauses (r .free) v o (r .low) (r .high)) ≡ groupText g v o
-  counter-text s h v o =
-      let p = counter-parts g r e in
+module _ (g : Group) (r : Totalizer) (e : r ≡ totalizerOf g) where
+  pub totalizer-text : SettledAmong (limits .entrants) g → r .exists ≡ true → (v o : ℕ)
+      → each clauseText (totalizerClauses (r .size) v o (r .low) (r .high)) ≡ groupText g v o
+  totalizer-text s h v o =
+      let p = totalizer-parts g r e in
       rw (p .0, p .1, p .2) (sym (some-text g s (sym (p .3) ∙ h) v o))
 
 -- ---- one group more
@@ -59,5 +71,7 @@ count-next t i h =
     ∙ total-append groupClauseCount (take i t) (getD t i zeroGroup ∷ [])
     ∙ omega arith
 
-pub steady-at : (t : List Group) (k i : ℕ) → Steadies (take k t) → i < k → k ≤ length t → Steady (getD t i zeroGroup)
-steady-at t k i s h l = rw (getD-take k t i zeroGroup h) at (s .at i (omega (arith, length-take k t)))
+pub settled-at : (t : List Group) (k i : ℕ) → All (SettledAmong (limits .entrants)) (take k t) → i < k → k ≤ length t
+    → SettledAmong (limits .entrants) (getD t i zeroGroup)
+settled-at t k i s h l =
+    rw (getD-take k t i zeroGroup h) at (all-place (SettledAmong (limits .entrants)) zeroGroup (take k t) s i (omega (arith, length-take k t)))

@@ -5,7 +5,7 @@ pub mod Nodes
 pub mod Trees
 pub mod Groups
 pub mod MemberTerms
-pub mod Lines
+pub mod Constraints
 pub mod Settled
 pub mod Entry
 pub mod Runs

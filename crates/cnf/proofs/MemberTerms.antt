@@ -1,16 +1,15 @@
 -- Laws of a constraint's terms: members, literals and the arrays that hold them. Assumes nothing.
 use mathlib.Core.Path.{_≡_, refl, sym, ap, ap₂, _∙_}
-use mathlib.Core.Bool.{Bool, true≢false, true, false, _||_}
+use mathlib.Core.Bool.{true, false}
 use mathlib.Core.List.{List, [], _∷_, map}
-use Prim.Native.Nat.{ℕ, zero, suc, _+_, _-_, _*_, _/_, _%_, _^_, _≤_, _<_}
-use native.Mathlib.Nat.{one-mul, mod-lt, zero-add}
+use Prim.Native.Nat.{ℕ, zero, suc, _+_, _-_, _/_, _%_, _^_, _≤_, _<_}
+use native.Mathlib.Nat.{zero-add}
 use native.Mathlib.Numerals.{add-one}
 use native.Mathlib.Omega.{arith}
 use borrow.Author.Tests.{eq-eqb, ne-eqb}
-use lib.Dec.{T, ltb→lt}
+use lib.Dec.{T, leb→le}
 use lib.Bits.{bitAnd, bitXor}
-use lib.Count.{ones, ones-le}
-use lib.Pow.{shl-exact, pow-pos}
+use lib.Count.{ones}
 use lib.ListN.{length, getD, take, length-take}
 use lib.Seq.{getD-take}
 use Rattle.model.specs.declared.Literal.{Literal}
@@ -18,27 +17,21 @@ use Rattle.model.specs.declared.Literal.the-variants.{Pos, Neg}
 use Rattle.model.specs.declared.Term.{Term}
 use Rattle.model.specs.declared.Term.the-variants.{Holds, Fails, Open}
 use Rattle.model.specs.declared.Group.{Group}
-use Rattle.encoding_laws.proofs.Members.{between-le}
 use Rattle.model.specs.Lists.{any, every, between, range, total}
 use Rattle.model.specs.Clauses.{memberClauses}
 use Rattle.model.specs.Totalizer.{oppositeTerm, holds, keep}
 use Rattle.model.specs.Model.{zeroGroup, groupAt}
-use Rattle.model.specs.Cnf.{firstVariable, firstOutput}
 use Rattle.model.specs.Words.{less, bit, has}
 use Rattle.model.specs.Assignment.{variable}
 use Rattle.model.proofs.Words.{size-ones}
-use Rattle.model.proofs.Lists.{any-map, total-const, every-getD, each-range-ext, range-last, total-append}
+use Rattle.model.proofs.Lists.{between-le, any-map, any-none, none-any, all-place, places-all, total-const, every-getD, each-range-ext, range-last, total-append}
 use Rattle.cnf.specs.declared.Member.{Member}
-use Rattle.cnf.specs.Parts.{known, keptText, memberOf, memberTerm, smallMember, literalTerm, clauseOf, memberClauseText, entrantText, keptCount, entrantCount, Within}
-use Rattle.numbering.specs.Counter.{numbers, firstVariables, firstOutputs}
+use Rattle.cnf.specs.Parts.{known, keptText, memberOf, memberTerm, smallMember, literalTerm, clauseOf, memberClauseText, entrantText, keptCount, entrantCount, MembersBelow}
+use Rattle.numbering.specs.Numbering.{firstVariables}
+use Rattle.numbering.proofs.Models.{variable-from}
 use Rattle.model.specs.Limits.{limits}
-use Rattle.model.proofs.Lists.{getD-map-in, range-getD, range-length}
 
 -- ---- a member's term
-
--- `1 << e` is 2 to the e
-pub power : (e : ℕ) → e < 32 → 1 * 2 ^ e % 2 ^ 64 ≡ 2 ^ e
-power e h = shl-exact 1 e 64 (omega arith) (omega arith) ∙ one-mul (2 ^ e)
 
 module _ (m : Member) (e : ℕ) where
   pub term-holds : m .fixed / 2 ^ e % 2 ≡ 1 → Holds ≡ memberTerm e m
@@ -56,12 +49,10 @@ module _ (m : Member) (e : ℕ) where
       rw (ne-eqb (m .fixed / 2 ^ e % 2) 1 h, eq-eqb (m .possible / 2 ^ e % 2) 1 k, q)
       (ap (λ (n : ℕ). Open (Pos (m .first + n))) (sym (size-ones (bitXor (m .possible) (bitAnd (m .possible) (m .fixed)) % 2 ^ e))))
 
-pub below-few : (w e d : ℕ) → d ≡ 2 ^ e → ones (w % d) ≤ e
-below-few w e d q = rw q (ones-le e (w % 2 ^ e) (mod-lt w (pow-pos e)))
-
-pub small-at : (ms : List Member) (k i : ℕ) (d : Member) → T (every smallMember (take k ms)) → i < k → k ≤ length ms → (getD ms i d) .first < 100000
+pub small-at : (ms : List Member) (k i : ℕ) (d : Member) → T (every smallMember (take k ms)) → i < k → k ≤ length ms
+    → getD ms i d .first ≤ suc (limits .variables)
 small-at ms k i d t h l =
-    ltb→lt ((getD ms i d) .first) 100000
+    leb→le (getD ms i d .first) (suc (limits .variables))
     (rw (getD-take k ms i d h) at (every-getD smallMember (take k ms) d i t (omega (arith, length-take k ms))))
 
 -- ---- a clause's text
@@ -73,24 +64,12 @@ clause-text ts cs code count j k e h = ap keptText (ap (λ (n : ℕ). take n cs)
 
 -- ---- a member from its group and the group's first variable
 
-pub first-at : (t : List Group) (first : List ℕ) (g : ℕ) → first ≡ firstVariables t → 1 ≤ g → g ≤ limits .groups → getD first (g - 1) 0 ≡ firstVariable t g
-unfolding firstVariables numbers
-first-at t first g e h k =
-    rw e
-    (getD-map-in (firstVariable t) (range 1 (limits .groups)) (g - 1) 0 0 (omega (arith, range-length 1 (limits .groups)))
-    ∙ ap (firstVariable t) (range-getD 1 (limits .groups) (g - 1) 0 (omega arith) ∙ omega arith))
-
-pub output-from : (t : List Group) (outputs : List ℕ) (g : ℕ) → outputs ≡ firstOutputs t → 1 ≤ g → g ≤ limits .groups → getD outputs (g - 1) 0 ≡ firstOutput t g
-unfolding firstOutputs numbers
-output-from t outputs g e h k =
-    rw e
-    (getD-map-in (firstOutput t) (range 1 (limits .groups)) (g - 1) 0 0 (omega (arith, range-length 1 (limits .groups)))
-    ∙ ap (firstOutput t) (range-getD 1 (limits .groups) (g - 1) 0 (omega arith) ∙ omega arith))
-
 pub member-is : (t : List Group) (s g : ℕ) (first : List ℕ) → first ≡ firstVariables (take s t) → 1 ≤ g → g ≤ s → s ≤ limits .groups
     → record { fixed = getD t (g - 1) zeroGroup .fixed; possible = getD t (g - 1) zeroGroup .possible; first = getD first (g - 1) 0 } ≡ memberOf (take s t) g
 unfolding memberOf groupAt
-member-is t s g first e h k n = rw (getD-take s t (g - 1) zeroGroup (omega arith), first-at (take s t) first g e h (omega arith))
+member-is t s g first e h k n =
+    let q : 1 + (g - 1) ≡ g = omega arith in
+    rw (getD-take s t (g - 1) zeroGroup (omega arith), variable-from (take s t) first (g - 1) (omega arith) e, q)
 
 -- ---- the terms past the first k matter to no clause
 
@@ -103,7 +82,7 @@ literal-first : (ts : List Term) (k : ℕ) (l : Literal) → variable l < k → 
 literal-first ts k (Pos i) h = sym (getD-take k ts i Holds h)
 literal-first ts k (Neg i) h = ap oppositeTerm (sym (getD-take k ts i Holds h))
 
-pub entrant-first : (ts us : List Term) (k code count : ℕ) → Within k code count → take k ts ≡ us → entrantText ts code count ≡ entrantText us code count
+pub entrant-first : (ts us : List Term) (k code count : ℕ) → MembersBelow k code count → take k ts ≡ us → entrantText ts code count ≡ entrantText us code count
 unfolding entrantText memberClauseText
 entrant-first ts us k code count w e =
     each-range-ext (memberClauseText ts code count) (memberClauseText us code count) 0 (length (memberClauses code count))
@@ -140,7 +119,7 @@ total-range-ext f g i zero h = refl
 total-range-ext f g i (suc n) h =
     ap₂ (λ (a b : ℕ). a + b) (h i (omega arith) (omega arith)) (total-range-ext f g (suc i) n (λ j l k. h j (omega arith) (omega arith)))
 
-pub count-first : (ts us : List Term) (k code count : ℕ) → Within k code count → take k ts ≡ us → entrantCount ts code count ≡ entrantCount us code count
+pub count-first : (ts us : List Term) (k code count : ℕ) → MembersBelow k code count → take k ts ≡ us → entrantCount ts code count ≡ entrantCount us code count
 unfolding entrantCount keptCount
 count-first ts us k code count w e =
     total-range-ext (keptCount ts code count) (keptCount us code count) 0 (length (memberClauses code count))
@@ -150,27 +129,16 @@ count-first ts us k code count w e =
 
 -- ---- an entrant of whom nothing is known keeps every clause
 
-or-false : (a b : Bool) → (a || b) ≡ false → (a ≡ false) × (b ≡ false)
-or-false true b e = (e, absurd (true≢false e))
-or-false false b e = (refl, e)
-
-none-at : (p : Term → Bool) (xs : List Term) (d : Term) (i : ℕ) → any p xs ≡ false → i < length xs → p (getD xs i d) ≡ false
-none-at p [] d i e h = absurd (omega arith)
-none-at p (x ∷ xs) d zero e h = or-false (p x) (any p xs) e .0
-none-at p (x ∷ xs) d (suc i) e h = none-at p xs d i (or-false (p x) (any p xs) e .1) (omega arith)
-
-any-none : (p : Literal → Bool) (d : Literal) (xs : List Literal) → ((i : ℕ) → i < length xs → p (getD xs i d) ≡ false) → any p xs ≡ false
-any-none p d [] h = refl
-any-none p d (x ∷ xs) h = rw (h 0 (omega arith)) (any-none p d xs (λ i l. h (suc i) (omega arith)))
-
 open-both : (t : Term) → known t ≡ false → (holds t ≡ false) × (holds (oppositeTerm t) ≡ false)
 open-both (Open l) e = (refl, refl)
 open-both Holds e = (e, refl)
 open-both Fails e = (refl, e)
 
-module _ (ts : List Term) (k code count : ℕ) (w : Within k code count) (few : k ≤ length ts) (e : any known (take k ts) ≡ false) where
+module _ (ts : List Term) (k code count : ℕ) (w : MembersBelow k code count) (few : k ≤ length ts) (e : any known (take k ts) ≡ false) where
   open-at : (i : ℕ) → i < k → known (getD ts i Holds) ≡ false
-  open-at i h = rw (getD-take k ts i Holds h) at (none-at known (take k ts) Holds i e (omega (arith, length-take k ts)))
+  open-at i h =
+      rw (getD-take k ts i Holds h) at
+      (all-place (λ t. known t ≡ false) Holds (take k ts) (none-any known (take k ts) e) i (omega (arith, length-take k ts)))
 
   literal-open : (l : Literal) → variable l < k → holds (literalTerm ts l) ≡ false
   literal-open (Pos i) h = open-both (getD ts i Holds) (open-at i h) .0
@@ -180,8 +148,9 @@ module _ (ts : List Term) (k code count : ℕ) (w : Within k code count) (few : 
   kept-one j h =
       sym (counted-once ts code count j
       (any-map holds (literalTerm ts) (clauseOf code count j)
-      ∙ any-none (λ l. holds (literalTerm ts l)) (Pos 0) (clauseOf code count j)
-      (λ i l. literal-open (getD (clauseOf code count j) i (Pos 0)) (w .below j i h l))))
+      ∙ any-none (λ l. holds (literalTerm ts l)) (clauseOf code count j)
+      (places-all (λ l. holds (literalTerm ts l) ≡ false) (Pos 0) (clauseOf code count j)
+      (λ i l. literal-open (getD (clauseOf code count j) i (Pos 0)) (w .below j i h l)))))
 
   pub all-kept : entrantCount ts code count ≡ length (memberClauses code count)
   unfolding entrantCount

@@ -1,46 +1,17 @@
 -- Laws of decimal texts, digit by digit. Assumes nothing.
 use mathlib.Core.Path.{_≡_, refl, ap, sym, _∙_}
 use mathlib.Core.List.{List, [], _∷_, _++_, append-assoc}
-use Prim.Native.Nat.{ℕ, zero, suc, _+_, _/_, _%_, _≤_, _<_}
+use Prim.Native.Nat.{ℕ, _+_, _/_, _%_, _≤_, _<_}
 use native.Mathlib.Omega.{arith}
-use native.Mathlib.Decide.{decLt}
-use borrow.Author.Tests.{lt-ltb, le-ltb}
 use lib.ListN.{length, length-append}
 use Rattle.model.specs.declared.Model.{Model}
-use Rattle.model.specs.Model.{tableOf}
 use Rattle.model.specs.Cnf.{variableCount, clauseCount}
-use Rattle.model.specs.Text.{digits, decimal, headerText}
+use Rattle.model.specs.Text.{decimal, headerText}
+use Rattle.encoding_laws.proofs.Decimal.{decimal-small, decimal-more, decimal-length}
 use Rattle.cnf.specs.Parts.{spaced, countsText}
-
-digits-small : (f v : ℕ) → v < 10 → digits (suc f) v ≡ (48 + v) ∷ []
-unfolding digits
-digits-small f v h = rw (lt-ltb v 10 h, digits)
-
-digits-more : (f v : ℕ) → 10 ≤ v → digits (suc f) v ≡ digits f (v / 10) ++ (48 + v % 10) ∷ []
-unfolding digits
-digits-more f v h = rw (le-ltb v 10 h, digits)
-
-fuel : (f g v : ℕ) → v < f → v < g → digits f v ≡ digits g v
-fuel zero g v hf hg = absurd (omega arith)
-fuel (suc f) zero v hf hg = absurd (omega arith)
-fuel (suc f) (suc g) v hf hg = elim (decLt v 10) [ yes h ↦ digits-small f v h ∙ sym (digits-small g v h) | no h ↦ step (fuel f g (v / 10)) (omega arith) ]
-  where
-    step : (v / 10 < f → v / 10 < g → digits f (v / 10) ≡ digits g (v / 10)) → 10 ≤ v → digits (suc f) v ≡ digits (suc g) v
-    step ih h = digits-more f v h ∙ ap (λ (l : List ℕ). l ++ (48 + v % 10) ∷ []) (ih (omega arith) (omega arith)) ∙ sym (digits-more g v h)
-
-pub decimal-small : (v : ℕ) → v < 10 → decimal v ≡ (48 + v % 10) ∷ []
-unfolding decimal
-decimal-small v h = digits-small v v h ∙ ap (λ (d : ℕ). (48 + d) ∷ []) (omega arith)
-
-pub decimal-more : (v : ℕ) → 10 ≤ v → decimal v ≡ decimal (v / 10) ++ (48 + v % 10) ∷ []
-unfolding decimal
-decimal-more v h = digits-more v v h ∙ ap (λ (l : List ℕ). l ++ (48 + v % 10) ∷ []) (fuel v (suc (v / 10)) (v / 10) (omega arith) (omega arith))
 
 abbrev digit : ℕ → List ℕ
 digit v = (48 + v % 10) ∷ []
-
-decimal-length : (v : ℕ) → 10 ≤ v → length (decimal v) ≡ length (decimal (v / 10)) + 1
-decimal-length v h = rw (decimal-more v h) (rw length-append)
 
 -- two and three digits, and three more
 
@@ -55,9 +26,6 @@ more-digits v h =
     decimal-more v (omega arith)
     ∙ ap (λ (l : List ℕ). l ++ digit v) (decimal-more (v / 10) (omega arith)
     ∙ ap (λ (l : List ℕ). l ++ digit (v / 10)) (decimal-more (v / 10 / 10) (omega arith)))
-
-pub one-length : (v : ℕ) → v < 10 → length (decimal v) ≡ 1
-one-length v h = ap length (decimal-small v h)
 
 pub two-length : (v : ℕ) → 10 ≤ v → v / 10 < 10 → length (decimal v) ≡ 2
 two-length v h k = ap length (two-digits v h k)
@@ -83,8 +51,8 @@ counts-length v c =
     ap length (counts-text v c)
     ∙ simp length-append (omega arith)
 
-pub header-is : (m : Model) (v c : ℕ) → v ≡ variableCount (tableOf m) → c ≡ clauseCount m → countsText v c ≡ headerText m
+pub header-is : (m : Model) (v c : ℕ) → v ≡ variableCount m → c ≡ clauseCount m → countsText v c ≡ headerText m
 unfolding countsText headerText
 header-is m v c p q =
     rw (p, q)
-    (ap (λ (l : List ℕ). (l ++ decimal (clauseCount m)) ++ 10 ∷ []) (sym (append-assoc title (decimal (variableCount (tableOf m))) (32 ∷ []))))
+    (ap (λ (l : List ℕ). (l ++ decimal (clauseCount m)) ++ 10 ∷ []) (sym (append-assoc title (decimal (variableCount m)) (32 ∷ []))))

@@ -11,6 +11,7 @@ use Rattle.model.specs.declared.Literal.{Literal}
 use Rattle.model.specs.declared.Literal.the-variants.{Pos, Neg}
 use Rattle.model.specs.declared.Term.{Term}
 use Rattle.model.specs.declared.Term.the-variants.{Fails, Open}
+use Rattle.model.specs.Limits.{limits}
 use Rattle.model.specs.Lists.{each, range, every}
 use Rattle.model.specs.Totalizer.{Output, Shape, keep, up, down, formed, putIn, nodeClauses, shape, rootOutput, treeClauses, unit, unitClauses, totalizerClauses, treeOutputCount, clauseCountIn, treeClauseCount}
 use Rattle.model.specs.Text.{clauseText}
@@ -18,7 +19,7 @@ use Rattle.model.proofs.Lists.{every-range, each-append, each-each, each-map, e
 use Rattle.encoding_laws.proofs.Totalizer.{tree-step, root-step, shape-one}
 use Rattle.encoding_laws.proofs.Counts.{outputs-count, output-count-step}
 use Rattle.cnf.specs.declared.Node.{Node}
-use Rattle.cnf.specs.Parts.{keptText, outputText, pairText, rowText, nodeText, treeText, signed, unitText, Small}
+use Rattle.cnf.specs.Parts.{keptText, outputText, pairText, rowText, nodeText, treeText, signed, unitText, Among, Small}
 
 -- a table that was computed agrees with a function at each place
 table-is : (f : ℕ → ℕ) (table : List ℕ) (m n : ℕ) → T (every (λ k. eqb (getD table k 0) (f k)) (range 0 n)) → m < n → getD table m 0 ≡ f m
@@ -26,12 +27,11 @@ table-is f table m n t h = eqb→eq (getD table m 0) (f m) (every-range (λ k. e
 
 abbrev clauseTable : List ℕ
 clauseTable =
-    0 ∷ 0 ∷ 6 ∷ 16 ∷ 28 ∷ 44 ∷ 62 ∷ 82 ∷ 104 ∷ 130 ∷ 158 ∷ 188 ∷ 220 ∷ 254 ∷ 290 ∷ 328 ∷ 368 ∷ 412 ∷ 458 ∷ 506 ∷ 556 ∷ 608 ∷ 662 ∷ 718 ∷ 776
-    ∷ 836 ∷ 898 ∷ 962 ∷ 1028 ∷ 1096 ∷ 1166 ∷ 1238 ∷ 1312 ∷ []
+    0 ∷ 0 ∷ 6 ∷ 16 ∷ 28 ∷ 44 ∷ 62 ∷ 82 ∷ 104 ∷ 130 ∷ 158 ∷ 188 ∷ 220 ∷ 254 ∷ 290 ∷ 328 ∷ 368 ∷ 412 ∷ 458 ∷ 506 ∷ 556 ∷ 608 ∷ 662 ∷ 718 ∷ 776 ∷ 836 ∷ 898 ∷ 962 ∷ 1028 ∷ 1096 ∷ 1166 ∷ 1238 ∷ 1312 ∷ 1390 ∷ 1470 ∷ 1552 ∷ 1636 ∷ 1722 ∷ 1810 ∷ 1900 ∷ 1992 ∷ 2086 ∷ 2182 ∷ 2280 ∷ 2380 ∷ 2482 ∷ 2586 ∷ 2692 ∷ 2800 ∷ 2910 ∷ 3022 ∷ 3136 ∷ 3252 ∷ 3370 ∷ 3490 ∷ 3612 ∷ 3736 ∷ 3862 ∷ 3990 ∷ 4120 ∷ 4252 ∷ 4386 ∷ 4522 ∷ 4660 ∷ 4800 ∷ []
 
-pub clause-table : (m : ℕ) → m ≤ 32 → getD clauseTable m 0 ≡ treeClauseCount m
+pub clause-table : (m : ℕ) → m ≤ limits .word → getD clauseTable m 0 ≡ treeClauseCount m
 unfolding treeClauseCount clauseCountIn
-clause-table m h = table-is treeClauseCount clauseTable m 33 tt (omega arith)
+clause-table m h = table-is treeClauseCount clauseTable m (suc (limits .word)) tt (omega arith)
 
 -- ---- a node
 
@@ -65,9 +65,9 @@ root-one m v o h = ap (λ (s : Shape). rootOutput s v o) (shape-one m (omega ari
 pub root-more : (m v o : ℕ) → 2 ≤ m → rootOutput (shape m) v o + m ≡ o + treeOutputCount m
 root-more m v o h = root-step m v o h ∙ ap (λ (k : ℕ). o + k) (outputs-count m)
 
-pub root-bound : (m v o : ℕ) → 1 ≤ m → rootOutput (shape m) v o + m ≤ (v + m) + (o + treeOutputCount m)
-root-bound (suc zero) v o h = omega (arith, root-one 1 v o (omega arith))
-root-bound (suc (suc m)) v o h = omega (arith, root-more (suc (suc m)) v o (omega arith))
+pub root-among : (m v o : ℕ) → 1 ≤ m → Among v m → Among o (treeOutputCount m) → Among (rootOutput (shape m) v o) m
+root-among (suc zero) v o h x y = omega (arith, root-one 1 v o (omega arith))
+root-among (suc (suc m)) v o h x y = omega (arith, root-more (suc (suc m)) v o (omega arith))
 
 -- the node over the halves of m
 abbrev nodeOf : (m c d own : ℕ) → Node
@@ -96,13 +96,12 @@ module _ (m v o p own c d : ℕ) (h : 2 ≤ m) (hp : p ≡ o + treeOutputCount (
   pub outputs-more : treeOutputCount m ≡ m + treeOutputCount (m / 2) + treeOutputCount (m - m / 2)
   outputs-more = output-count-step m h
 
-  pub small : v + m < 50000 → o + treeOutputCount m < 50000 → Small (nodeOf m c d own)
-  small x y =
-      record {
-        lefts = omega (arith, root-bound (m / 2) v o (omega arith), outputs-more);
-        rights = omega (arith, root-bound (m - m / 2) (v + m / 2) p (omega arith), outputs-more);
-        owns = omega (arith, outputs-more);
-      }
+  pub small : Among v m → Among o (treeOutputCount m) → Small (nodeOf m c d own)
+  small x y = record {
+    lefts = rw hc (root-among (m / 2) v o (omega arith) (omega arith) (omega (arith, outputs-more)));
+    rights = rw hd (root-among (m - m / 2) (v + m / 2) p (omega arith) (omega arith) (omega (arith, outputs-more)));
+    owns = omega (arith, outputs-more);
+  }
 
 -- ---- the units
 

@@ -1,13 +1,12 @@
 -- The parts that the block writer's functions write, as texts of the definitions' clauses. Assumes nothing.
-use Prim.Native.Nat.{ℕ, _+_, _%_, _^_, _≤_, _<_}
-use mathlib.Core.Path.{_≡_}
-use mathlib.Core.Bool.{Bool, true, false, cond, not}
+use Prim.Native.Nat.{ℕ, suc, _+_, _%_, _^_, _≤_, _<_}
+use mathlib.Core.Bool.{Bool, true, false, cond}
 use mathlib.Core.List.{List, [], _∷_, _++_, map}
 use Rattle.model.specs.declared.Literal.{Literal}
 use Rattle.model.specs.declared.Literal.the-variants.{Pos, Neg}
 use Rattle.model.specs.declared.Term.{Term}
 use Rattle.model.specs.declared.Term.the-variants.{Holds, Fails, Open}
-use lib.Dec.{T, ltb, eqb}
+use lib.Dec.{leb, ltb, eqb}
 use lib.ListN.{length, getD}
 use Rattle.model.specs.declared.Group.{Group}
 use Rattle.model.specs.Lists.{each, range, total, stop}
@@ -16,10 +15,9 @@ use Rattle.model.specs.Limits.{limits}
 use Rattle.model.specs.Clauses.{memberClauses}
 use Rattle.model.specs.Assignment.{variable}
 use Rattle.model.specs.declared.Model.{Model}
-use Rattle.model.specs.Model.{zeroGroup, groupAt, inRange}
-use Rattle.model.specs.Propagate.{isFixpoint}
-use Rattle.encoding_laws.proofs.Sized.{Sized}
-use Rattle.model.specs.Cnf.{openCount, atLeast, atMost, counted, firstVariable}
+use Rattle.model.specs.Model.{groupAt}
+use Rattle.model.specs.Propagate.{unsettledOr}
+use Rattle.model.specs.Cnf.{openCount, atLeast, atMost, counted, firstVariable, blockCount}
 use Rattle.model.specs.Totalizer.{Output, oppositeTerm, keep, up, down, putIn, shape, treeClauses, unit, totalizerClauses}
 use Rattle.model.specs.Text.{decimal, literalText, clauseText, blockText, blockRefusal}
 use Rattle.cnf.specs.declared.Node.{Node}
@@ -85,8 +83,9 @@ memberTerm e m =
     cond (has (m .fixed) e) Holds
     (cond (has (m .possible) e) (Open (Pos (m .first + size (less (m .possible) (m .fixed) % 2 ^ e)))) Fails)
 
+-- its first variable is one that a listing may have, or the next
 abbrev pub smallMember : Member → Bool
-smallMember m = ltb (m .first) 100000
+smallMember m = leb (m .first) (suc (limits .variables))
 
 -- a literal of a member, where the members' terms are ts
 abbrev pub literalTerm : List Term → Literal → Term
@@ -108,7 +107,7 @@ unfoldable pub entrantText : List Term → ℕ → ℕ → List ℕ
 entrantText ts code count = each (memberClauseText ts code count) (range 0 (length (memberClauses code count)))
 
 -- the first k members are enough
-pub record Within (k code count : ℕ) : Type 0 where
+pub record MembersBelow (k code count : ℕ) : Type 0 where
   pub below : (j i : ℕ) → j < length (memberClauses code count) → i < length (clauseOf code count j) → variable (getD (clauseOf code count j) i (Pos 0)) < k
 
 unfoldable pub constraintText : List Member → ℕ → ℕ → ℕ → List ℕ
@@ -124,22 +123,15 @@ entrantCount ts code count = total (keptCount ts code count) (range 0 (length (m
 unfoldable pub constraintCount : List Member → ℕ → ℕ → ℕ → ℕ
 constraintCount ms code count n = total (λ e. entrantCount (map (memberTerm e) ms) code count) (range 0 n)
 
--- a group that is in range and at its fixpoint
-pub record Steady (g : Group) : Type 0 where
-  pub few : openCount g ≤ 32
-  pub low-is : atLeast g + size (g .fixed) ≡ g .low
-  pub high-is : atMost g + size (g .fixed) ≡ g .high
-  pub low-high : atLeast g ≤ atMost g
-  pub high-open : atMost g ≤ openCount g
+-- the k variables from `first` on are among those that a listing may have
+abbrev pub Among : ℕ → ℕ → Type 0
+Among first k = first + k ≤ suc (limits .variables)
 
-pub record Steadies (t : List Group) : Type 0 where
-  pub at : (i : ℕ) → i < length t → Steady (getD t i zeroGroup)
-
--- a node whose variables are small
+-- a node whose outputs are
 pub record Small (t : Node) : Type 0 where
-  pub lefts : t .c + t .left < 100000
-  pub rights : t .d + t .right < 100000
-  pub owns : t .own + (t .left + t .right) < 100000
+  pub lefts : Among (t .c) (t .left)
+  pub rights : Among (t .d) (t .right)
+  pub owns : Among (t .own) (t .left + t .right)
 
 -- ---- a model that may be listed
 
@@ -153,10 +145,4 @@ blockLength m b room = cond (eqb (blockRefusal m b room) 0) (length (blockText m
 
 -- the refusals that do not depend on the buffer
 unfoldable pub judgement : Model → ℕ → ℕ
-judgement m b = stop (not (inRange m)) 20 (stop (not (isFixpoint m)) 22 (stop (ltb (m .s + m .c) b) 23 0))
-
--- in range, at its fixpoint, and with lists as long as its arrays
-pub record Settled (m : Model) : Type 0 where
-  pub range-is : T (inRange m)
-  pub fixpoint : T (isFixpoint m)
-  pub sized : Sized m
+judgement m b = unsettledOr m (stop (ltb (blockCount m) b) 23 0)

@@ -7,6 +7,7 @@ use lib.ListN.{length, drop}
 use Rattle.model.specs.declared.Model.{Model}
 use Rattle.model.specs.Lists.{each, range}
 use Rattle.model.specs.Limits.{limits}
+use Rattle.model.specs.Cnf.{blockCount}
 use Rattle.model.specs.Text.{blockText}
 use Rattle.cnf.specs.declared.Run.{Run}
 use Rattle.cnf.specs.Parts.{judgement}
@@ -19,7 +20,7 @@ runCount (suc k) m b room =
 
 -- none where the run is refused
 unfoldable pub runLength : Model → ℕ → ℕ → ℕ
-runLength m b room = cond (eqb (judgement m b) 0) (runCount (m .s + m .c + 1 - b) m b room) 0
+runLength m b room = cond (eqb (judgement m b) 0) (runCount (blockCount m + 1 - b) m b room) 0
 
 unfoldable pub runText : Model → ℕ → ℕ → List ℕ
 runText m b room = each (blockText m) (range b (runLength m b room))

@@ -1,29 +1,33 @@
 // The block writer: one block of the listing in a buffer of the caller's. The third step of the chain.
 ghost use mathlib.Core.Path.{_≡_};
-ghost use mathlib.Core.Bool.{true, false};
+ghost use mathlib.Core.Bool.{true, false, cond};
 ghost use mathlib.Core.List.{[], _∷_, map};
 ghost use lib.Dec.{T};
-ghost use Prim.Native.Nat.{_+_, _-_, _≤_, _<_};
+ghost use Prim.Native.Nat.{suc, _+_, _-_, _*_, _≤_, _<_};
 ghost use lib.ListN.{length, take, getD};
 ghost use Rattle.model.specs.Lists.{any, each, every, between, range, total};
 ghost use Rattle.model.specs.declared.Term.the-variants.{Fails};
 ghost use Rattle.model.specs.Limits.{limits};
 ghost use Rattle.model.specs.Clauses.{memberClauses};
 ghost use Rattle.model.specs.Totalizer.{oppositeTerm, holds, output, shape, rootOutput, up, down, totalizerClauses, treeOutputCount, treeClauseCount};
-ghost use Rattle.model.specs.Cnf.{openCount, outputsOf, groupClauseCount, constraintClauses};
+ghost use Rattle.model.specs.Cnf.{openCount, outputsOf, groupClauseCount, constraintClauses, blockCount};
 ghost use Rattle.model.specs.Assignment.{variable};
-ghost use Rattle.model.specs.Model.{tableOf, constraintInRange};
+ghost use Rattle.model.specs.Model.{constraintInRange, inRange};
+ghost use Rattle.model.specs.Propagate.{Settled};
+ghost use Rattle.model.proofs.Lists.{All};
+ghost use Rattle.encoding_laws.proofs.Fixpoint.{SettledAmong};
 ghost use Rattle.model.specs.Text.{decimal, literalText, clauseText, headerText, blockText, blockRefusal, writtenBlock, writtenRefusal, writtenLength, blockBuffer};
-ghost use Rattle.numbering.specs.Counter.{firstVariables, firstOutputs};
+ghost use Rattle.numbering.specs.Numbering.{firstVariables, numberingOf};
 ghost use Rattle.cnf.specs.Wrote.{Wrote};
 ghost use Rattle.cnf.specs.Run.{runOf, runBuffer};
-ghost use Rattle.cnf.specs.Parts.{spaced, known, termText, keptText, outputText, pairText, rowText, nodeText, treeText, signed, unitText, groupText, memberOf, memberTerm, smallMember, literalTerm, clauseOf, memberClauseText, entrantText, constraintText, keptCount, entrantCount, constraintCount, countsText, blockLength, judgement, Small, Steady, Steadies, Fitting, Within, Settled};
+ghost use Rattle.cnf.specs.Parts.{spaced, known, termText, keptText, outputText, pairText, rowText, nodeText, treeText, signed, unitText, groupText, memberOf, memberTerm, smallMember, literalTerm, clauseOf, memberClauseText, entrantText, constraintText, keptCount, entrantCount, constraintCount, countsText, blockLength, judgement, Among, Small, Fitting, MembersBelow};
 use model::Constraint;
 use model::Group;
 use model::Literal;
 use model::Model;
 use model::Term;
 use model::Written;
+use numbering::Numbering;
 
 // ---- a clause
 
@@ -169,7 +173,7 @@ fn put_clause(buf: &mut [u8], ts: [Term; Model::MEMBERS], k: usize) -> usize
 
 // Output i of size outputs, numbered from first on: 0 is true, one above the size false.
 fn output(first: u32, size: u32, i: u32) -> Term
-    requires { ⌜ first + size < 1000000 ⌝ }
+    requires { ⌜ Among first size ⌝ }
     ensures { λ r. ⌜ r ≡ output first size i ⌝ }
 {
     if i == 0 {
@@ -309,8 +313,8 @@ fn put_node(buf: &mut [u8], at: usize, t: Node) -> usize
     n
 }
 
-// "Tree clauses T(1) = 0, T(m) = T(left) + T(right) + 2(a+1)(b+1) - 2".
-const CLAUSES: [u32; 33] = [
+// "Tree clauses T(1) = 0, T(m) = T(left) + T(right) + 2(a+1)(b+1) - 2", for every size of a word's set.
+const CLAUSES: [u32; Model::WORD as usize + 1] = [
     0,
     0,
     6,
@@ -344,18 +348,50 @@ const CLAUSES: [u32; 33] = [
     1166,
     1238,
     1312,
+    1390,
+    1470,
+    1552,
+    1636,
+    1722,
+    1810,
+    1900,
+    1992,
+    2086,
+    2182,
+    2280,
+    2380,
+    2482,
+    2586,
+    2692,
+    2800,
+    2910,
+    3022,
+    3136,
+    3252,
+    3370,
+    3490,
+    3612,
+    3736,
+    3862,
+    3990,
+    4120,
+    4252,
+    4386,
+    4522,
+    4660,
+    4800,
 ];
 
 // The outputs of a tree of size m.
 fn output_count(m: u32) -> u32
-    requires { ⌜ m ≤ 32 ⌝ }
+    requires { ⌜ m ≤ limits .word ⌝ }
     ensures { λ r. ⌜ r ≡ treeOutputCount m ⌝ }
 {
     numbering::output_count(m)
 }
 
 fn clause_count(m: u32) -> u32
-    requires { ⌜ m ≤ 32 ⌝ }
+    requires { ⌜ m ≤ limits .word ⌝ }
     ensures { λ r. ⌜ r ≡ treeClauseCount m ⌝ }
 {
     CLAUSES[m as usize]
@@ -363,7 +399,7 @@ fn clause_count(m: u32) -> u32
 
 // The first output of a tree's root, where its leaves start at v and its outputs at o.
 fn root(m: u32, v: u32, o: u32) -> u32
-    requires { ⌜ (m ≤ 32) × (o < 100000) ⌝ }
+    requires { ⌜ (m ≤ limits .word) × Among o (treeOutputCount m) ⌝ }
     ensures { λ r. ⌜ r ≡ rootOutput (shape m) v o ⌝ }
 {
     if m < 2 {
@@ -374,7 +410,7 @@ fn root(m: u32, v: u32, o: u32) -> u32
 
 // The tree of size m: left half, right half, then the node itself.
 fn put_tree(buf: &mut [u8], at: usize, m: u32, v: u32, o: u32) -> usize
-    requires { ⌜ (1 ≤ m) × (m ≤ 32) × (v + m < 50000) × (o + treeOutputCount m < 50000) ⌝ }
+    requires { ⌜ (1 ≤ m) × (m ≤ limits .word) × Among v m × Among o (treeOutputCount m) ⌝ }
     requires { ⌜ at + length (treeText m v o) ≤ length (now buf) ⌝ }
     ensures { λ r. ⌜ Wrote (treeText m v o) at (now (buf .entry)) (now (buf .exit)) r ⌝ }
 {
@@ -415,7 +451,7 @@ fn put_unit(buf: &mut [u8], at: usize, positive: bool, v: u32) -> usize
 
 // The unit clauses of the outputs a, a + 1, .. (k of them) that are numbered from first on.
 fn put_units(buf: &mut [u8], at: usize, positive: bool, first: u32, a: u32, k: u32) -> usize
-    requires { ⌜ first + (a + k) < 100000 ⌝ }
+    requires { ⌜ Among first (a + k) ⌝ }
     requires { ⌜ at + length (each (unitText positive first) (range a k)) ≤ length (now buf) ⌝ }
     ensures { λ r. ⌜ Wrote (each (unitText positive first) (range a k)) at (now (buf .entry)) (now (buf .exit)) r ⌝ }
 {
@@ -430,7 +466,7 @@ fn put_units(buf: &mut [u8], at: usize, positive: bool, first: u32, a: u32, k: u
 
 // A totalizer: the tree, then its units.
 fn put_totalizer(buf: &mut [u8], at: usize, m: u32, v: u32, o: u32, low: u32, high: u32) -> usize
-    requires { ⌜ (1 ≤ m) × (m ≤ 32) × (v + m < 50000) × (o + treeOutputCount m < 50000) ⌝ }
+    requires { ⌜ (1 ≤ m) × (m ≤ limits .word) × Among v m × Among o (treeOutputCount m) ⌝ }
     requires { ⌜ (low ≤ m) × (high ≤ m) ⌝ }
     requires { ⌜ at + length (each clauseText (totalizerClauses m v o low high)) ≤ length (now buf) ⌝ }
     ensures { λ r. ⌜ Wrote (each clauseText (totalizerClauses m v o low high)) at (now (buf .entry)) (now (buf .exit)) r ⌝ }
@@ -445,35 +481,35 @@ fn put_totalizer(buf: &mut [u8], at: usize, m: u32, v: u32, o: u32, low: u32, hi
 
 // The clauses of a group's totalizer, if it has one; its variables start at v and the outputs at o.
 fn put_group(buf: &mut [u8], at: usize, g: Group, v: u32, o: u32) -> usize
-    requires { ⌜ Steady g ⌝ }
-    requires { ⌜ (v + openCount g < 50000) × (o + outputsOf g < 50000) ⌝ }
+    requires { ⌜ SettledAmong (limits .entrants) g ⌝ }
+    requires { ⌜ Among v (openCount g) × Among o (outputsOf g) ⌝ }
     requires { ⌜ at + length (groupText g v o) ≤ length (now buf) ⌝ }
     ensures { λ r. ⌜ Wrote (groupText g v o) at (now (buf .entry)) (now (buf .exit)) r ⌝ }
 {
-    let c = numbering::counter_of(g);
-    if !c.exists {
+    let t = numbering::totalizer_of(g);
+    if !t.exists {
         return at;
     }
-    put_totalizer(buf, at, c.free, v, o, c.low, c.high)
+    put_totalizer(buf, at, t.size, v, o, t.low, t.high)
 }
 
-// How many clauses these are.
+// How many clauses these are: no more than a block has bytes.
 fn group_count(g: Group) -> u32
-    requires { ⌜ Steady g ⌝ }
-    ensures { λ r. ⌜ (r ≡ groupClauseCount g) × (r ≤ 1344) ⌝ }
+    requires { ⌜ SettledAmong (limits .entrants) g ⌝ }
+    ensures { λ r. ⌜ (r ≡ groupClauseCount g) × (r ≤ limits .block) ⌝ }
 {
-    let c = numbering::counter_of(g);
-    if !c.exists {
+    let t = numbering::totalizer_of(g);
+    if !t.exists {
         return 0;
     }
-    clause_count(c.free) + c.low + (c.free - c.high)
+    clause_count(t.size) + t.low + (t.size - t.high)
 }
 
 // Of the first s groups.
 fn sum_groups(groups: [Group; Model::GROUPS], s: usize) -> u32
     requires { ⌜ s ≤ limits .groups ⌝ }
-    requires { ⌜ Steadies (take s groups) ⌝ }
-    ensures { λ r. ⌜ (r ≡ total groupClauseCount (take s groups)) × (r ≤ 344064) ⌝ }
+    requires { ⌜ All (SettledAmong (limits .entrants)) (take s groups) ⌝ }
+    ensures { λ r. ⌜ (r ≡ total groupClauseCount (take s groups)) × (r ≤ s * limits .block) ⌝ }
 {
     let mut r = 0;
     let mut i: usize = 0;
@@ -530,7 +566,7 @@ fn members(
 
 // "in group g" for entrant e.
 fn member_term(m: Member, e: u32) -> Term
-    requires { ⌜ (e < 32) × (m .first < 100000) ⌝ }
+    requires { ⌜ (e < limits .entrants) × (m .first ≤ suc (limits .variables)) ⌝ }
     ensures { λ r. ⌜ r ≡ memberTerm e m ⌝ }
 {
     if (m.fixed >> e) % 2 == 1 {
@@ -546,7 +582,7 @@ fn member_term(m: Member, e: u32) -> Term
 
 // The same for each of the first k groups.
 fn member_terms(ms: [Member; Model::MEMBERS], k: usize, e: u32) -> [Term; Model::MEMBERS]
-    requires { ⌜ (k ≤ limits .members) × (e < 32) ⌝ }
+    requires { ⌜ (k ≤ limits .members) × (e < limits .entrants) ⌝ }
     requires { ⌜ T (every smallMember (take k ms)) ⌝ }
     ensures { λ r. ⌜ (length r ≡ limits .members) × (take k r ≡ map (memberTerm e) (take k ms)) ⌝ }
 {
@@ -667,8 +703,8 @@ fn put_constraint(
     count: u32,
     n: u32,
 ) -> usize
-    requires { ⌜ (k ≤ limits .members) × (n ≤ 32) ⌝ }
-    requires { ⌜ Fitting code count × Within k code count ⌝ }
+    requires { ⌜ (k ≤ limits .members) × (n ≤ limits .entrants) ⌝ }
+    requires { ⌜ Fitting code count × MembersBelow k code count ⌝ }
     requires { ⌜ T (every smallMember (take k ms)) ⌝ }
     requires { ⌜ at + length (constraintText (take k ms) code count n) ≤ length (now buf) ⌝ }
     ensures { λ r. ⌜ Wrote (constraintText (take k ms) code count n) at (now (buf .entry)) (now (buf .exit)) r ⌝ }
@@ -715,7 +751,7 @@ fn kept_count(ts: [Term; Model::MEMBERS], code: u32, count: u32, j: usize) -> u3
 // Of one entrant.
 fn entrant_count(ts: [Term; Model::MEMBERS], code: u32, count: u32) -> u32
     requires { ⌜ Fitting code count ⌝ }
-    requires { ⌜ length (memberClauses code count) ≤ 100 ⌝ }
+    requires { ⌜ length (memberClauses code count) ≤ limits .members ⌝ }
     ensures { λ r. ⌜ (r ≡ entrantCount ts code count) × (r ≤ length (memberClauses code count)) ⌝ }
 {
     let end = constraint::clause_count(code, count);
@@ -757,8 +793,8 @@ fn any_known(ts: [Term; Model::MEMBERS], k: usize) -> bool
 // The same as entrant_count, of which k members are enough: where none of their terms is known, no clause is left out.
 fn entrant_total(ts: [Term; Model::MEMBERS], k: usize, code: u32, count: u32) -> u32
     requires { ⌜ k ≤ limits .members ⌝ }
-    requires { ⌜ Fitting code count × Within k code count ⌝ }
-    requires { ⌜ length (memberClauses code count) ≤ 100 ⌝ }
+    requires { ⌜ Fitting code count × MembersBelow k code count ⌝ }
+    requires { ⌜ length (memberClauses code count) ≤ limits .members ⌝ }
     ensures { λ r. ⌜ (r ≡ entrantCount ts code count) × (r ≤ length (memberClauses code count)) ⌝ }
 {
     if any_known(ts, k) {
@@ -769,11 +805,11 @@ fn entrant_total(ts: [Term; Model::MEMBERS], k: usize, code: u32, count: u32) ->
 
 // Of a constraint of k members, for n entrants.
 fn constraint_count(ms: [Member; Model::MEMBERS], k: usize, code: u32, count: u32, n: u32) -> u32
-    requires { ⌜ (k ≤ limits .members) × (n ≤ 32) ⌝ }
-    requires { ⌜ Fitting code count × Within k code count ⌝ }
-    requires { ⌜ length (memberClauses code count) ≤ 100 ⌝ }
+    requires { ⌜ (k ≤ limits .members) × (n ≤ limits .entrants) ⌝ }
+    requires { ⌜ Fitting code count × MembersBelow k code count ⌝ }
+    requires { ⌜ length (memberClauses code count) ≤ limits .members ⌝ }
     requires { ⌜ T (every smallMember (take k ms)) ⌝ }
-    ensures { λ r. ⌜ (r ≡ constraintCount (take k ms) code count n) × (r ≤ 3200) ⌝ }
+    ensures { λ r. ⌜ (r ≡ constraintCount (take k ms) code count n) × (r ≤ limits .entrants * limits .members) ⌝ }
 {
     let mut r = 0;
     let mut e = 0;
@@ -785,10 +821,10 @@ fn constraint_count(ms: [Member; Model::MEMBERS], k: usize, code: u32, count: u3
     r
 }
 
-// ---- the lines of a sheet
+// ---- the constraints of a model
 
 // The clauses of constraint c among the first s groups.
-fn put_line(
+fn put_constraint_block(
     buf: &mut [u8],
     at: usize,
     groups: [Group; Model::GROUPS],
@@ -797,8 +833,8 @@ fn put_line(
     c: Constraint,
     n: u32,
 ) -> usize
-    requires { ⌜ (s ≤ limits .groups) × (n ≤ 32) ⌝ }
-    requires { ⌜ Steadies (take s groups) × (first ≡ firstVariables (take s groups)) ⌝ }
+    requires { ⌜ (s ≤ limits .groups) × (n ≤ limits .entrants) ⌝ }
+    requires { ⌜ All (SettledAmong (limits .entrants)) (take s groups) × (first ≡ firstVariables (take s groups)) ⌝ }
     requires { ⌜ T (constraintInRange s c) ⌝ }
     requires { ⌜ at + length (each clauseText (constraintClauses n (take s groups) c)) ≤ length (now buf) ⌝ }
     ensures { λ r. ⌜ Wrote (each clauseText (constraintClauses n (take s groups) c)) at (now (buf .entry)) (now (buf .exit)) r ⌝ }
@@ -810,17 +846,17 @@ fn put_line(
 }
 
 // How many they are.
-fn line_count(
+fn constraint_length(
     groups: [Group; Model::GROUPS],
     s: usize,
     first: [u32; Model::GROUPS],
     c: Constraint,
     n: u32,
 ) -> u32
-    requires { ⌜ (s ≤ limits .groups) × (n ≤ 32) ⌝ }
-    requires { ⌜ Steadies (take s groups) × (first ≡ firstVariables (take s groups)) ⌝ }
+    requires { ⌜ (s ≤ limits .groups) × (n ≤ limits .entrants) ⌝ }
+    requires { ⌜ All (SettledAmong (limits .entrants)) (take s groups) × (first ≡ firstVariables (take s groups)) ⌝ }
     requires { ⌜ T (constraintInRange s c) ⌝ }
-    ensures { λ r. ⌜ (r ≡ length (constraintClauses n (take s groups) c)) × (r ≤ 3200) ⌝ }
+    ensures { λ r. ⌜ (r ≡ length (constraintClauses n (take s groups) c)) × (r ≤ limits .entrants * limits .members) ⌝ }
 {
     let k = model::member_count(c.code, c.count);
     let ids = c.groups;
@@ -829,7 +865,7 @@ fn line_count(
 }
 
 // Of the first c constraints.
-fn sum_lines(
+fn sum_constraints(
     groups: [Group; Model::GROUPS],
     s: usize,
     first: [u32; Model::GROUPS],
@@ -837,16 +873,16 @@ fn sum_lines(
     c: usize,
     n: u32,
 ) -> u32
-    requires { ⌜ (s ≤ limits .groups) × (n ≤ 32) × (c ≤ limits .constraints) ⌝ }
-    requires { ⌜ Steadies (take s groups) × (first ≡ firstVariables (take s groups)) ⌝ }
+    requires { ⌜ (s ≤ limits .groups) × (n ≤ limits .entrants) × (c ≤ limits .constraints) ⌝ }
+    requires { ⌜ All (SettledAmong (limits .entrants)) (take s groups) × (first ≡ firstVariables (take s groups)) ⌝ }
     requires { ⌜ T (every (constraintInRange s) (take c constraints)) ⌝ }
-    ensures { λ r. ⌜ (r ≡ total (λ x. length (constraintClauses n (take s groups) x)) (take c constraints)) × (r ≤ 819200) ⌝ }
+    ensures { λ r. ⌜ (r ≡ total (λ x. length (constraintClauses n (take s groups) x)) (take c constraints)) × (r ≤ c * (limits .entrants * limits .members)) ⌝ }
 {
     let mut r = 0;
     let mut j: usize = 0;
     while j < c {
         let x = constraints[j];
-        r += line_count(groups, s, first, x, n);
+        r += constraint_length(groups, s, first, x, n);
         j += 1;
     }
     r
@@ -886,61 +922,72 @@ fn put_counts(buf: &mut [u8], at: usize, v: u32, c: u32) -> usize
 }
 
 // Block 0.
-fn put_header(buf: &mut [u8], at: usize, m: Model, first: [u32; Model::GROUPS]) -> usize
-    requires { ⌜ Settled m × (first ≡ firstVariables (tableOf m)) ⌝ }
+fn put_header(buf: &mut [u8], at: usize, m: Model, v: Numbering) -> usize
+    requires { ⌜ Settled m × (v ≡ numberingOf m) ⌝ }
     requires { ⌜ at + length (headerText m) ≤ length (now buf) ⌝ }
     ensures { λ r. ⌜ Wrote (headerText m) at (now (buf .entry)) (now (buf .exit)) r ⌝ }
 {
     let s = m.s as usize;
     let groups = m.groups;
     let constraints = m.constraints;
-    let v = numbering::variable_count(groups, m.s);
+    let first = v.first;
     let a = sum_groups(groups, s);
-    let b = sum_lines(groups, s, first, constraints, m.c as usize, m.n);
-    put_counts(buf, at, v, a + b)
+    let b = sum_constraints(groups, s, first, constraints, m.c as usize, m.n);
+    put_counts(buf, at, v.variables, a + b)
 }
 
 // Block b of a settled model.
-fn put_block(
-    buf: &mut [u8],
-    at: usize,
-    m: Model,
-    first: [u32; Model::GROUPS],
-    outputs: [u32; Model::GROUPS],
-    b: u32,
-) -> usize
-    requires { ⌜ Settled m × (first ≡ firstVariables (tableOf m)) × (outputs ≡ firstOutputs (tableOf m)) ⌝ }
-    requires { ⌜ b ≤ m .s + m .c ⌝ }
+fn put_block(buf: &mut [u8], at: usize, m: Model, v: Numbering, b: u32) -> usize
+    requires { ⌜ Settled m × (v ≡ numberingOf m) ⌝ }
+    requires { ⌜ b ≤ blockCount m ⌝ }
     requires { ⌜ at + length (blockText m b) ≤ length (now buf) ⌝ }
     ensures { λ r. ⌜ Wrote (blockText m b) at (now (buf .entry)) (now (buf .exit)) r ⌝ }
 {
     if b == 0 {
-        return put_header(buf, at, m, first);
+        return put_header(buf, at, m, v);
     }
     let i = b as usize - 1;
     let s = m.s as usize;
     if b <= m.s {
         let g = m.groups[i];
-        return put_group(buf, at, g, first[i], outputs[i]);
+        return put_group(buf, at, g, v.first[i], v.outputs[i]);
     }
     let groups = m.groups;
+    let first = v.first;
     let c = m.constraints[i - s];
-    put_line(buf, at, groups, s, first, c, m.n)
+    put_constraint_block(buf, at, groups, s, first, c, m.n)
 }
 
 // ---- the entry
+
+// The blocks after block 0.
+fn last_block(m: Model) -> u32
+    requires { ⌜ T (inRange m) ⌝ }
+    ensures { λ r. ⌜ (r ≡ blockCount m) × (r ≤ limits .groups + limits .constraints) ⌝ }
+{
+    m.s + m.c
+}
+
+// The same for every model: where the listing ends; 0 for a model out of range.
+pub fn block_count(m: Model) -> u32
+    ensures { λ r. ⌜ r ≡ cond (inRange m) (blockCount m) 0 ⌝ }
+    ensures { λ r. ⌜ r ≤ limits .groups + limits .constraints ⌝ }
+{
+    if !m.in_range() {
+        return 0;
+    }
+    last_block(m)
+}
 
 // Refusals 20, 22 and 23, or 0.
 fn judged(m: Model, b: u32) -> u32
     ensures { λ r. ⌜ r ≡ judgement m b ⌝ }
 {
-    if !m.in_range() {
-        return 20;
+    let refusal = propagate::unsettled(m);
+    if refusal != 0 {
+        return refusal;
     }
-    if !propagate::is_fixpoint(m) {
-        return 22;
-    }
-    if m.s + m.c < b {
+    if last_block(m) < b {
         return 23;
     }
     0
@@ -953,23 +1000,21 @@ fn whole(groups: [Group; Model::GROUPS], constraints: [Constraint; Model::CONSTR
 
 // Block b of a settled model. A buffer that holds every block is written at once, a shorter one measured first.
 fn write_settled(m: Model, b: u32, buf: &mut [u8]) -> Written
-    requires { ⌜ Settled m × (b ≤ m .s + m .c) ⌝ }
+    requires { ⌜ Settled m × (b ≤ blockCount m) ⌝ }
     ensures { λ r. ⌜ r ≡ writtenBlock m b (length (now (buf .entry))) ⌝ }
     ensures { λ r. ⌜ now (buf .exit) ≡ blockBuffer m b (now (buf .entry)) ⌝ }
 {
-    let groups = m.groups;
-    let first = numbering::first_variables(groups, m.s);
-    let outputs = numbering::first_outputs(groups, m.s);
+    let v = numbering::of_model(m);
     if buf.len() < Model::BLOCK_BYTES {
         let mut scratch = [0u8; Model::BLOCK_BYTES];
-        let k = put_block(&mut scratch, 0, m, first, outputs, b);
+        let k = put_block(&mut scratch, 0, m, v, b);
         if buf.len() < k {
             return Written::Refused(24);
         }
-        let n = put_block(buf, 0, m, first, outputs, b);
+        let n = put_block(buf, 0, m, v, b);
         return Written::Bytes(n);
     }
-    let n = put_block(buf, 0, m, first, outputs, b);
+    let n = put_block(buf, 0, m, v, b);
     Written::Bytes(n)
 }
 
@@ -1000,14 +1045,12 @@ pub struct Run {
 
 // The blocks of a settled model from b on, each while the buffer has room for any block.
 fn write_run(m: Model, b: u32, buf: &mut [u8]) -> Run
-    requires { ⌜ Settled m × (b ≤ m .s + m .c) × (judgement m b ≡ 0) ⌝ }
+    requires { ⌜ Settled m × (b ≤ blockCount m) × (judgement m b ≡ 0) ⌝ }
     ensures { λ r. ⌜ r ≡ runOf m b (length (now (buf .entry))) ⌝ }
     ensures { λ r. ⌜ now (buf .exit) ≡ runBuffer m b (now (buf .entry)) ⌝ }
 {
-    let groups = m.groups;
-    let first = numbering::first_variables(groups, m.s);
-    let outputs = numbering::first_outputs(groups, m.s);
-    let last = m.s + m.c;
+    let v = numbering::of_model(m);
+    let last = last_block(m);
     let mut at: usize = 0;
     let mut x = b;
     while x <= last {
@@ -1018,7 +1061,7 @@ fn write_run(m: Model, b: u32, buf: &mut [u8]) -> Run
                 length: at,
             };
         }
-        at = put_block(buf, at, m, first, outputs, x);
+        at = put_block(buf, at, m, v, x);
         x += 1;
     }
     Run {

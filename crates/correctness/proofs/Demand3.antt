@@ -1,35 +1,30 @@
 -- Demand 3 holds for every accepted sheet and every order of it. Settling from the propagation laws, listing and match from the encoding laws, reading back
 -- from Reading. Assumes nothing.
 use mathlib.Core.Path.{_≡_, refl, sym, ap, ap₂, _∙_, subst}
-use mathlib.Core.Logic.{_⊎_, inl, inr}
-use Prim.Native.Nat.{ℕ, zero, suc, _+_, _*_, _≤_, _<_, min}
+use Prim.Native.Nat.{ℕ, suc, _+_, _*_, _≤_}
 use native.Mathlib.Omega.{arith}
-use mathlib.Core.Bool.{Bool, true, false, cond, not, _&&_}
-use mathlib.Core.List.{List, [], _∷_, List·Permᴰ, Permᴰ·symm}
-use borrow.Author.Tests.{eq-eqb, le-ltb, eqb-true}
-use lib.Dec.{T, leb, eqb, le→leb, leb→le}
-use lib.ListN.{length, take, drop, length-take}
+use mathlib.Core.Bool.{Bool, true, false, not, _&&_}
+use mathlib.Core.List.{List, List·Permᴰ, Permᴰ·symm}
+use borrow.Author.Tests.{eq-eqb, le-ltb}
+use lib.Dec.{T, leb, eqb, le→leb}
+use lib.ListN.{length, take, length-take}
 use Rattle.model.specs.declared.Literal.{Literal}
-use Rattle.model.specs.declared.Constraint.{Constraint}
 use Rattle.model.specs.declared.Group.{Group}
 use Rattle.model.specs.declared.Model.{Model}
-use Rattle.model.specs.declared.Propagated.{Propagated}
-use Rattle.model.specs.declared.Closed.{Closed}
 use Rattle.model.specs.Lists.{every, pairwise, between, stop}
 use Rattle.model.specs.Limits.{limits}
-use Rattle.model.specs.Model.{tableOf, constraintsOf, inRange}
-use Rattle.model.specs.Propagate.{propagated, isFixpoint, consistent}
-use Rattle.model.specs.Cnf.{variableCount, clauses}
+use Rattle.model.specs.Model.{tableOf, constraintsOf, membersSized}
+use Rattle.model.specs.Propagate.{propagated, consistent, Settled}
+use Rattle.model.specs.Cnf.{variableCount, blockCount, clauses}
 use Rattle.model.specs.Text.{blockText, hasEmptyClause, blockRefusal}
-use Rattle.model.specs.Assignment.{Said, nothingSaid, variable, isSaid, lineRead, callRefusal}
+use Rattle.model.specs.Assignment.{nothingSaid, variable, isSaid, lineRead}
 use Rattle.model.specs.Close.{satisfying, groupsBy, closedGroups, assignmentOf, closeRefusal, closed}
 use Rattle.model.specs.Solution.{allowed, constraintTrue, isSolution}
-use Rattle.model.specs.Demand.{Accepted, OrderOf, groupWithin, within, unchanged, isCandidate, isAssignment, isSatisfying, freshReading, isFresh, readingAfter, valuesAfterAll, sayLines, says}
-use Rattle.model.proofs.Lists.{T-true, T-false, T-ext, true-T, and-left, and-right, and-both, All, all-imp, every-all, all-every, all-perm, every-take, pairwise-length}
-use Rattle.propagation_laws.proofs.Propagation.{Propagation, Reordered, Kept}
-use Rattle.propagation_laws.proofs.Ranges.{model-range}
-use Rattle.propagation_laws.proofs.Sheets.{Accurate, accurate, whole, order-accepted, sheet-propagation}
-use Rattle.encoding_laws.proofs.Sized.{Sized, membersSized}
+use Rattle.model.specs.Demand.{OrderOf, groupWithin, within, unchanged, isCandidate, isAssignment, isSatisfying, freshReading, isFresh, readingAfter, valuesAfterAll, says}
+use Rattle.model.proofs.Lists.{T-true, T-false, T-ext, true-T, and-right, and-both, All, all-imp, every-all, all-every, all-perm, pairwise-length}
+use Rattle.model.proofs.Refusals.{settled-rest}
+use Rattle.propagation_laws.proofs.Propagation.{Propagation, Reordered}
+use Rattle.propagation_laws.proofs.Sheets.{Accurate, accurate, order-accepted, sheet-propagation}
 use Rattle.encoding_laws.proofs.Groups.{clauses-length}
 use Rattle.encoding_laws.proofs.Ranges.{In, variables-in}
 use Rattle.encoding_laws.proofs.Bounds.{block-bound}
@@ -37,13 +32,13 @@ use Rattle.encoding_laws.proofs.Nonempty.{no-empty-clause}
 use Rattle.encoding_laws.proofs.Text.{header-reads, listing-reads}
 use Rattle.encoding_laws.proofs.Whole.{OneForOne, one-for-one}
 use Rattle.correctness.specs.Demand3.{Settling, Listing, Matching, saidAfter, closedAfter, Answer, ReadingBack, Demand3}
-use Rattle.correctness.proofs.Reading.{Matches, Holds, refusal-same, reading-matches, fresh-matches, says-size, values-say, said-all, said-assignment}
+use Rattle.correctness.proofs.Reading.{Matches, refusal-same, reading-matches, fresh-matches, says-size, values-say, said-all, said-assignment}
 
 -- ---- reading back, for any settled model in range
 
-module _ (q : Model) (r : T (inRange q)) (fix : T (isFixpoint q)) (values : List ℕ) (fresh : T (isFresh q values)) (lines : List (List ℕ)) where
-  end : Matches (variableCount (tableOf q)) (saidAfter q lines) (readingAfter lines freshReading values) (valuesAfterAll lines freshReading values)
-  end = reading-matches (variableCount (tableOf q)) lines nothingSaid freshReading values (fresh-matches q values fresh)
+module _ (q : Model) (s : Settled q) (values : List ℕ) (fresh : T (isFresh q values)) (lines : List (List ℕ)) where
+  end : Matches (variableCount q) (saidAfter q lines) (readingAfter lines freshReading values) (valuesAfterAll lines freshReading values)
+  end = reading-matches (variableCount q) lines nothingSaid freshReading values (fresh-matches q values fresh)
 
   -- the refusals left at closing: 27 and 28
   close-chain : closeRefusal q (readingAfter lines freshReading values) (valuesAfterAll lines freshReading values)
@@ -51,17 +46,16 @@ module _ (q : Model) (r : T (inRange q)) (fix : T (isFixpoint q)) (values : List
       (stop (not (satisfying q (assignmentOf (valuesAfterAll lines freshReading values)))) 28 0)
   unfolding closeRefusal
   close-chain =
-      rw (
-        T-true (inRange q) r,
-        T-true (isFixpoint q) fix,
-        eq-eqb (length (valuesAfterAll lines freshReading values)) (variableCount (tableOf q)) (end .holds .size),
+      settled-rest q (s .in-range) (s .fixpoint) _
+      ∙ rw (
+        eq-eqb (length (valuesAfterAll lines freshReading values)) (variableCount q) (end .holds .size),
         end .closed,
       )
 
   pub reading-back : ReadingBack q values lines
   unfolding closed lineRead isSatisfying isAssignment
   reading-back = record {
-    judged = λ line. refusal-same (variableCount (tableOf q)) (saidAfter q lines) (readingAfter lines freshReading values) (valuesAfterAll lines freshReading values) end line;
+    judged = λ line. refusal-same (variableCount q) (saidAfter q lines) (readingAfter lines freshReading values) (valuesAfterAll lines freshReading values) end line;
     closes = closes′;
     only = only′;
   }
@@ -69,13 +63,13 @@ module _ (q : Model) (r : T (inRange q)) (fix : T (isFixpoint q)) (values : List
       w : List ℕ
       w = valuesAfterAll lines freshReading values
 
-      closes′ : (a : List Bool) → T (says (variableCount (tableOf q)) (saidAfter q lines .literals) a) → saidAfter q lines .closed ≡ true
-          → T (eqb (length a) (variableCount (tableOf q)) && satisfying q a) → closedAfter q lines values ≡ record { refusal = 0; groups = closedGroups q a }
+      closes′ : (a : List Bool) → T (says (variableCount q) (saidAfter q lines .literals) a) → saidAfter q lines .closed ≡ true
+          → T (eqb (length a) (variableCount q) && satisfying q a) → closedAfter q lines values ≡ record { refusal = 0; groups = closedGroups q a }
       closes′ a t c s =
-          let e : a ≡ assignmentOf w = said-assignment (variableCount (tableOf q)) (saidAfter q lines .literals) w (end .holds) a t in
-          let all : every isSaid w ≡ true = T-true (every isSaid w) (said-all (variableCount (tableOf q)) (saidAfter q lines .literals) w (end .holds) a t) in
+          let e : a ≡ assignmentOf w = said-assignment (variableCount q) (saidAfter q lines .literals) w (end .holds) a t in
+          let all : every isSaid w ≡ true = T-true (every isSaid w) (said-all (variableCount q) (saidAfter q lines .literals) w (end .holds) a t) in
           let sat : satisfying q (assignmentOf w) ≡ true =
-          ap (satisfying q) (sym e) ∙ T-true (satisfying q a) (and-right (eqb (length a) (variableCount (tableOf q))) (satisfying q a) s) in
+          ap (satisfying q) (sym e) ∙ T-true (satisfying q a) (and-right (eqb (length a) (variableCount q)) (satisfying q a) s) in
           let z : closeRefusal q (readingAfter lines freshReading values) w ≡ 0 = close-chain ∙ rw (c, all, sat) in
           rw (z, e)
 
@@ -88,14 +82,14 @@ module _ (q : Model) (r : T (inRange q)) (fix : T (isFixpoint q)) (values : List
           go true pc false pd s ps e = absurd (omega arith)
           go true pc true pd false ps e = absurd (omega arith)
           go true pc true pd true ps e =
-              let t = values-say (variableCount (tableOf q)) (saidAfter q lines .literals) w (end .holds) (true-T (every isSaid w) pd) in
+              let t = values-say (variableCount q) (saidAfter q lines .literals) w (end .holds) (true-T (every isSaid w) pd) in
               record {
                 assignment = assignmentOf w;
                 said = t;
                 closing = pc;
                 satisfying =
-                    and-both (eqb (length (assignmentOf w)) (variableCount (tableOf q))) (satisfying q (assignmentOf w))
-                    (says-size (variableCount (tableOf q)) (saidAfter q lines .literals) (assignmentOf w) t)
+                    and-both (eqb (length (assignmentOf w)) (variableCount q)) (satisfying q (assignmentOf w))
+                    (says-size (variableCount q) (saidAfter q lines .literals) (assignmentOf w) t)
                     (true-T (satisfying q (assignmentOf w)) ps);
                 groups = rw z;
               }
@@ -110,21 +104,20 @@ between-all v cs h =
     (all-imp (In 1 (suc v)) (λ l. T (between 1 v (variable l))) (λ l r. and-both (leb 1 (variable l)) (leb (variable l) v) (le→leb 1 (variable l) (r .0)) (le→leb (variable l) v (omega (arith, r .1)))) c k))
     cs h)
 
-listed : (q : Model) → T (inRange q) → T (isFixpoint q) → Sized q → Listing q
+listed : (q : Model) → Settled q → Listing q
 unfolding blockRefusal
-listed q r fix z = record {
+listed q s = record {
   written = λ k h.
-      rw (
-        T-true (inRange q) r,
-        T-true (isFixpoint q) fix,
-        le-ltb (q .s + q .c) k h,
-        T-false (hasEmptyClause q k) (no-empty-clause q r fix z k),
-        le-ltb (limits .block) (length (blockText q k)) (block-bound q r fix z k),
+      settled-rest q (s .in-range) (s .fixpoint) _
+      ∙ rw (
+        le-ltb (blockCount q) k h,
+        T-false (hasEmptyClause q k) (no-empty-clause q s k),
+        le-ltb (limits .block) (length (blockText q k)) (block-bound q s k),
       );
   header = header-reads q;
-  reads = listing-reads q r fix z;
-  count = clauses-length q z;
-  variables = between-all (variableCount (tableOf q)) (clauses q) (variables-in q r fix z);
+  reads = listing-reads q s;
+  count = clauses-length q (s .sized);
+  variables = between-all (variableCount q) (clauses q) (variables-in q s);
 }
 
 -- ---- an order has the sheet's solutions
@@ -149,31 +142,23 @@ module _ (p : Model) (acc : Accurate p) (prop : Propagation p (propagated p)) (o
       pairwise-length groupWithin t (tableOf p)
       (and-right (consistent t && unchanged p t) (pairwise groupWithin t (tableOf p)) (prop .is-candidate ok))
 
-  few-groups : p .s ≤ limits .groups
-  few-groups = leb→le (p .s) (limits .groups) (and-right (leb 1 (p .s)) (leb (p .s) (limits .groups)) (model-range p (acc .in-range) .groups))
-
-  few-constraints : p .c ≤ limits .constraints
-  few-constraints = leb→le (p .c) (limits .constraints) (model-range p (acc .in-range) .constraints)
-
-  settled-sized : Sized (propagated p .model)
+  settled : Settled (propagated p .model)
   unfolding tableOf
-  settled-sized =
+  settled =
       let q = propagated p .model in
       let k = prop .kept in
       record {
-        groups = omega (arith, long, length-take (q .s) (q .groups), length-take (p .s) (p .groups), acc .groups, k .count, few-groups);
-        constraints = omega (arith, k .lines, ap length (k .constraints), acc .constraints, few-constraints);
+        in-range = prop .in-range;
+        fixpoint = prop .is-fixpoint ok;
+        sized = record {
+          groups = omega (arith, long, length-take (q .s) (q .groups), length-take (p .s) (p .groups), acc .sized .groups, k .count);
+          constraints = omega (arith, k .constraintCount, ap length (k .constraints), acc .sized .constraints);
+        };
       }
 
   settled-members : T (membersSized (propagated p .model))
-  unfolding constraintsOf whole
-  settled-members =
-      let q = propagated p .model in
-      all-every (λ c. leb (limits .members) (length (c .groups))) (take (q .c) (q .constraints))
-      (all-imp (λ c. T (whole c)) (λ c. T (leb (limits .members) (length (c .groups))))
-      (λ c t. le→leb (limits .members) (length (c .groups)) (omega (arith, eqb-true (length (c .groups)) (limits .members) (T-true (whole c) t))))
-      (take (q .c) (q .constraints))
-      (every-all whole (take (q .c) (q .constraints)) (every-take whole (q .c) (q .constraints) (rw (prop .kept .constraints) (acc .members)))))
+  unfolding constraintsOf
+  settled-members = rw (prop .kept .constraintCount, prop .kept .constraints) (acc .members)
 
 -- ---- the demand
 
@@ -209,8 +194,8 @@ demand-3 b o m h =
       };
       alike = sym (same .0);
       table = sym (same .1);
-      lists = λ e. listed q (prop-p .in-range) (prop-p .is-fixpoint e) (settled-sized p whole-p prop-p e);
+      lists = λ e. listed q (settled p whole-p prop-p e);
       matches = λ e. matched m p q (r .1 .1) (prop-p .solutions)
-          (one-for-one q (prop-p .in-range) (prop-p .is-fixpoint e) (settled-sized p whole-p prop-p e) (settled-members p whole-p prop-p e));
-      reads-back = λ e values f lines. reading-back q (prop-p .in-range) (prop-p .is-fixpoint e) values f lines;
+          (one-for-one q (settled p whole-p prop-p e) (settled-members p whole-p prop-p e));
+      reads-back = λ e values f lines. reading-back q (settled p whole-p prop-p e) values f lines;
     }

@@ -1,30 +1,27 @@
 -- A whole reading: the calls, one after the other, leave exactly what the lines that are not refused say. Assumes nothing.
 use mathlib.Core.Path.{_≡_, refl, sym, ap, ap₂, _∙_, subst}
 use mathlib.Core.Logic.{_≢_}
-use Prim.Native.Nat.{ℕ, zero, suc, _+_, _-_, _*_, _≤_, _<_}
-use native.Mathlib.Nat.{le-refl, le-trans}
+use Prim.Native.Nat.{ℕ, suc, _+_, _-_, _≤_, _<_}
 use native.Mathlib.Omega.{arith}
-use native.Mathlib.Decide.{decLt, ℕ-discrete}
+use native.Mathlib.Decide.{ℕ-discrete}
 use mathlib.Core.Bool.{Bool, true, false, cond, not, _&&_, _||_}
-use mathlib.Core.List.{List, [], _∷_, _++_, map, append-assoc, append-nil}
+use mathlib.Core.List.{List, [], _∷_, _++_, append-assoc, append-nil}
 use mathlib.Core.Option.{Option, none, some}
-use borrow.Author.Tests.{eq-eqb, ne-eqb, eqb-true, eqb-false, ltb-true, ltb-false, leb-true}
-use lib.Dec.{T, leb, ltb, eqb}
+use borrow.Author.Tests.{eq-eqb, ne-eqb, eqb-true, eqb-false, ltb-false}
+use lib.Dec.{T, ltb, eqb}
 use lib.ListN.{length, getD, set, length-set, length-map}
 use lib.Seq.{getD-set-same, getD-set-other, ext-getD}
 use Rattle.model.specs.declared.Literal.{Literal}
 use Rattle.model.specs.declared.Literal.the-variants.{Pos, Neg}
 use Rattle.model.specs.declared.Model.{Model}
 use Rattle.model.specs.declared.Reading.{Reading}
-use Rattle.model.specs.declared.LineRead.{LineRead}
-use Rattle.model.specs.Lists.{every, any, range, between, stop}
-use Rattle.model.specs.Model.{tableOf}
+use Rattle.model.specs.Lists.{every, any, range, stop}
 use Rattle.model.specs.Cnf.{variableCount}
 use Rattle.model.specs.Assignment.{Said, nothingSaid, formOf, isSaid, variable, valueFor, withValue, literalsRefusal, withValues, saidRefusal, isPassedOver, callRefusal, isTaken, saidBy, lineRead, valuesAfter}
 use Rattle.model.specs.Close.{truth, literalTrue, assignmentOf}
 use Rattle.model.specs.Demand.{names, offence, formOffence, refusalAfter, sayLine, sayLines, says, freshReading, isFresh, readingAfter, valuesAfterAll}
 use Rattle.model.proofs.Solver.{Named, form-named}
-use Rattle.model.proofs.Lists.{T-true, T-false, true-T, and-left, and-right, and-both, every-getD, All, all-append, all-imp, any-append, every-range, range-every, getD-map-in}
+use Rattle.model.proofs.Lists.{T-true, T-false, true-T, and-left, and-right, and-both, or-false, every-getD, All, all-append, all-imp, any-append, every-range, range-every, getD-map-in}
 
 -- ---- what values hold, and what was said
 
@@ -43,9 +40,8 @@ or-true : (a b : Bool) → b ≡ true → (a || (b || false)) ≡ true
 or-true true b e = refl
 or-true false b e = rw e
 
-or-false : (a b : Bool) → b ≡ false → (a || (b || false)) ≡ a
-or-false true b e = refl
-or-false false b e = rw e
+or-neither : (a b : Bool) → b ≡ false → (a || (b || false)) ≡ a
+or-neither a b e = rw e (or-false a)
 
 -- one literal more, which no earlier one names
 module _ (v : ℕ) (said : List Literal) (values : List ℕ) (h : Holds v said values) (l : Literal) (named : Named l)
@@ -86,7 +82,7 @@ module _ (v : ℕ) (said : List Literal) (values : List ℕ) (h : Holds v said v
           (sym (or-true (any (λ k. eqb (variable k) (suc (variable l - 1))) said) (eqb (variable l) (suc (variable l - 1))) (eq-eqb (variable l) (suc (variable l - 1)) (omega (arith, named)))))
       at i r (no f) =
           rw (any-append (λ k. eqb (variable k) (suc i)) said (l ∷ []), getD-set-other values (variable l - 1) i (valueFor l) 0 f)
-          (h .only i r ∙ sym (or-false (any (λ k. eqb (variable k) (suc i)) said) (eqb (variable l) (suc i)) (ne-eqb (variable l) (suc i) (λ z. f (omega (arith, z))))))
+          (h .only i r ∙ sym (or-neither (any (λ k. eqb (variable k) (suc i)) said) (eqb (variable l) (suc i)) (ne-eqb (variable l) (suc i) (λ z. f (omega (arith, z))))))
 
 -- literals in order: the calls judge them as the lines alone do, and where none offends, the values hold them too
 pub record Agrees (v : ℕ) (said ls : List Literal) (values : List ℕ) : Type 0 where
@@ -188,10 +184,10 @@ reading-matches v [] s r values h = h
 reading-matches v (line ∷ lines) s r values h =
     reading-matches v lines (sayLine v s line) (lineRead r line values .reading) (valuesAfter r line values) (line-next v s r values h line)
 
-pub fresh-matches : (m : Model) (values : List ℕ) → T (isFresh m values) → Matches (variableCount (tableOf m)) nothingSaid freshReading values
+pub fresh-matches : (m : Model) (values : List ℕ) → T (isFresh m values) → Matches (variableCount m) nothingSaid freshReading values
 unfolding isFresh nothingSaid freshReading
 fresh-matches m values t =
-    let v = variableCount (tableOf m) in
+    let v = variableCount m in
     let a = eqb (length values) v in
     let b = every (λ x. not (isSaid x)) values in
     let n : length values ≡ v = eqb-true (length values) v (T-true a (and-left a b t)) in

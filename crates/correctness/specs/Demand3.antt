@@ -4,24 +4,21 @@ use mathlib.Core.Path.{_≡_}
 use mathlib.Core.Logic.{_⊎_}
 use Prim.Native.Nat.{ℕ, _+_, _*_, _≤_}
 use mathlib.Core.Bool.{Bool, true}
-use mathlib.Core.List.{List, [], List·Permᴰ}
-use mathlib.Core.Option.{Option, some}
+use mathlib.Core.List.{List, []}
+use mathlib.Core.Option.{some}
 use lib.Dec.{T}
 use lib.ListN.{length}
-use Rattle.model.specs.declared.Literal.{Literal}
 use Rattle.model.specs.declared.Group.{Group}
 use Rattle.model.specs.declared.Model.{Model}
 use Rattle.model.specs.declared.Propagated.{Propagated}
-use Rattle.model.specs.declared.LineRead.{LineRead}
-use Rattle.model.specs.declared.Reading.{Reading}
 use Rattle.model.specs.declared.Closed.{Closed}
 use Rattle.model.specs.Lists.{every, between}
 use Rattle.model.specs.Limits.{limits}
-use Rattle.model.specs.Model.{tableOf, constraintsOf}
+use Rattle.model.specs.Model.{tableOf}
 use Rattle.model.specs.Propagate.{propagated}
-use Rattle.model.specs.Cnf.{variableCount, clauses, clauseCount}
+use Rattle.model.specs.Cnf.{variableCount, blockCount, clauses, clauseCount}
 use Rattle.model.specs.Text.{blockText, listing, blockRefusal}
-use Rattle.model.specs.Dimacs.{Formula, readDimacs}
+use Rattle.model.specs.Dimacs.{readDimacs}
 use Rattle.model.specs.Assignment.{Said, nothingSaid, variable, lineRead}
 use Rattle.model.specs.Close.{groupsBy, closedGroups, closed}
 use Rattle.model.specs.Solution.{isSolution}
@@ -46,15 +43,15 @@ pub record Settling (m : Model) (a : Propagated) : Type 0 where
 -- ---- the listing of the settled model q
 pub record Listing (q : Model) : Type 0 where
   -- every block is written into a buffer of 32,768 bytes
-  pub written : (k : ℕ) → k ≤ q .s + q .c → blockRefusal q k (limits .block) ≡ 0
+  pub written : (k : ℕ) → k ≤ blockCount q → blockRefusal q k (limits .block) ≡ 0
   -- block 0 says V and C of the formulas
-  pub header : readDimacs (blockText q 0) ≡ some (record { variables = variableCount (tableOf q); clauseCount = clauseCount q; clauses = [] })
+  pub header : readDimacs (blockText q 0) ≡ some (record { variables = variableCount q; clauseCount = clauseCount q; clauses = [] })
   -- all blocks, read as DIMACS text, are V, C and the clauses
-  pub reads : readDimacs (listing q) ≡ some (record { variables = variableCount (tableOf q); clauseCount = clauseCount q; clauses = clauses q })
+  pub reads : readDimacs (listing q) ≡ some (record { variables = variableCount q; clauseCount = clauseCount q; clauses = clauses q })
   -- exactly C of them
   pub count : length (clauses q) ≡ clauseCount q
   -- no variable below 1 or above V
-  pub variables : T (every (every (λ l. between 1 (variableCount (tableOf q)) (variable l))) (clauses q))
+  pub variables : T (every (every (λ l. between 1 (variableCount q) (variable l))) (clauses q))
 
 -- ---- draws of the sheet and satisfying assignments of the listing match one for one
 pub record Matching (m q : Model) : Type 0 where
@@ -67,7 +64,7 @@ pub record Matching (m q : Model) : Type 0 where
 
 -- ---- every list of solver lines from a fresh reading, with the closing call after it
 abbrev pub saidAfter : Model → List (List ℕ) → Said
-saidAfter q lines = sayLines (variableCount (tableOf q)) nothingSaid lines
+saidAfter q lines = sayLines (variableCount q) nothingSaid lines
 
 abbrev pub closedAfter : Model → List (List ℕ) → List ℕ → Closed
 closedAfter q lines values = closed q (readingAfter lines freshReading values) (valuesAfterAll lines freshReading values)
@@ -75,7 +72,7 @@ closedAfter q lines values = closed q (readingAfter lines freshReading values) (
 -- a satisfying assignment that the lines say, with a closing 0, whose groups the closing call gave
 pub record Answer (q : Model) (values : List ℕ) (lines : List (List ℕ)) : Type 0 where
   pub assignment : List Bool
-  pub said : T (says (variableCount (tableOf q)) (saidAfter q lines .literals) assignment)
+  pub said : T (says (variableCount q) (saidAfter q lines .literals) assignment)
   pub closing : saidAfter q lines .closed ≡ true
   pub satisfying : T (isSatisfying q assignment)
   pub groups : closedAfter q lines values .groups ≡ closedGroups q assignment
@@ -84,9 +81,9 @@ pub record ReadingBack (q : Model) (values : List ℕ) (lines : List (List ℕ))
   -- "Not refused are exactly the lines to which none of 10, 11, 12 and 25 applies", judged on the lines alone
   pub judged : (line : List ℕ)
       → lineRead (readingAfter lines freshReading values) line (valuesAfterAll lines freshReading values) .refusal
-      ≡ refusalAfter (variableCount (tableOf q)) (saidAfter q lines) line
+      ≡ refusalAfter (variableCount q) (saidAfter q lines) line
   -- "With a closing 0 said too and the assignment satisfying, closing .. gives its groups"
-  pub closes : (a : List Bool) → T (says (variableCount (tableOf q)) (saidAfter q lines .literals) a) → saidAfter q lines .closed ≡ true
+  pub closes : (a : List Bool) → T (says (variableCount q) (saidAfter q lines .literals) a) → saidAfter q lines .closed ≡ true
       → T (isSatisfying q a) → closedAfter q lines values ≡ record { refusal = 0; groups = closedGroups q a }
   -- and in no other case
   pub only : closedAfter q lines values .refusal ≡ 0 → Answer q values lines

@@ -1,12 +1,13 @@
--- "32,768 bytes hold each block; V is at most 49,152". Assumes nothing.
-use mathlib.Core.Path.{_≡_, refl, ap, _∙_}
+-- "32,768 bytes hold each block; V is at most 49,152": each bound first as a formula of n, s, c and the tree's own T and A, the numbers of the paper last.
+-- Assumes nothing.
+use mathlib.Core.Path.{_≡_, refl, sym, ap, ap₂, _∙_, subst}
 use mathlib.Core.Bool.{Bool, true, false, cond}
 use mathlib.Core.List.{List, [], _∷_, _++_, map}
-use Prim.Native.Nat.{ℕ, zero, suc, _+_, _-_, _*_, _≤_, _<_}
-use native.Mathlib.Nat.{le-trans}
+use Prim.Native.Nat.{ℕ, zero, suc, _+_, _-_, _*_, _/_, _^_, _≤_, _<_}
+use native.Mathlib.Nat.{le-refl, le-trans, le-of-eq, mul-comm, mul-add, mul-le-mul}
 use native.Mathlib.Omega.{arith}
 use native.Mathlib.Decide.{decLe}
-use lib.Dec.{T, leb, leb→le, eqb·suc-zero}
+use lib.Dec.{T, eqb·suc-zero}
 use lib.ListN.{length, getD, length-append, length-map}
 use Rattle.model.specs.declared.Literal.{Literal}
 use Rattle.model.specs.declared.Literal.the-variants.{Pos, Neg}
@@ -18,90 +19,177 @@ use Rattle.model.specs.declared.Model.{Model}
 use Rattle.model.specs.Lists.{any, each, total, range}
 use Rattle.model.specs.Limits.{limits}
 use Rattle.model.specs.Clauses.{shortClauses, unionClauses, memberClauses, ofGroup, clausesOf}
-use Rattle.model.specs.Model.{zeroGroup, zeroConstraint, groupAt, tableOf, constraintsOf, constraintInRange, inRange}
-use Rattle.model.specs.Propagate.{isFixpoint}
+use Rattle.model.specs.Model.{zeroGroup, zeroConstraint, groupAt, tableOf, constraintsOf, constraintInRange}
+use Rattle.model.specs.Propagate.{Settled}
 use Rattle.model.specs.Totalizer.{holds, literals, keep, up, down, formed, putIn, nodeClauses, Shape, leaf, node, shape, leaves, outputs, rootOutput, treeClauses, unit, unitClauses, totalizerClauses, clauseCountIn, treeClauseCount, outputCountIn, treeOutputCount}
-use Rattle.model.specs.Cnf.{openOf, openCount, atLeast, atMost, counted, outputsOf, firstVariable, firstOutput, variableCount, groupClauses, termOf, clausesAt, constraintClauses, blockClauses, groupClauseCount, clauseCount}
+use Rattle.model.specs.Cnf.{openOf, openCount, atLeast, atMost, counted, outputsOf, firstVariable, firstOutput, tableVariables, variableCount, groupClauses, termOf, clausesAt, constraintClauses, blockClauses, groupClauseCount, clauseCount}
 use Rattle.model.specs.Text.{decimal, literalText, clauseText, headerText, blockText}
 use Rattle.model.specs.Assignment.{variable}
 use Rattle.model.proofs.Words.{size-le}
-use Rattle.model.proofs.Lists.{every-range, length-each, each-each, total-ext, total-map, total-const, total-le, total-mono, each-all, All, all-both, all-imp, all-map-iff, all-of, all-each, all-place, all-getD, all-zip, every-all, range-length}
-use Rattle.encoding_laws.proofs.Sized.{Sized}
-use Rattle.encoding_laws.proofs.Counts.{group-length}
+use Rattle.model.proofs.Lists.{length-each, each-each, total-ext, total-map, total-const, total-le, total-mono, each-all, All, all-both, all-imp, all-map-iff, all-of, all-each, all-place, all-getD, all-zip, every-all, range-length}
+use Rattle.encoding_laws.proofs.Counts.{clause-count-step, output-count-step, group-length}
 use Rattle.encoding_laws.proofs.Groups.{table-length, constraints-length, group-block, constraint-block}
-use Rattle.encoding_laws.proofs.Fixpoint.{Stable, in-range, table-stable}
-use Rattle.model.proofs.Codes.{by-code}
-use Rattle.encoding_laws.proofs.Members.{code-six, count-in}
+use Rattle.model.proofs.Codes.{by-code, by-entrant, count-in}
+use Rattle.propagation_laws.proofs.Ranges.{in-range, constraint-code}
+use Rattle.encoding_laws.proofs.Fixpoint.{SettledAmong, table-settled}
 use Rattle.encoding_laws.proofs.Whole.{limits-of, open-lt}
 use Rattle.encoding_laws.proofs.Ranges.{In, VariablesIn, group-variables, constraint-variables}
-use Rattle.encoding_laws.proofs.Decimal.{digits-5, digits-7}
+use Rattle.encoding_laws.proofs.Decimal.{decimal-bound}
 
--- ---- a totalizer of at most 32 leaves
+-- ---- A and T grow with the size of the tree
 
-pub small-tree : (m : ℕ) → m ≤ 32 → (treeOutputCount m ≤ 160) × (treeClauseCount m ≤ 1312)
-unfolding treeOutputCount outputCountIn treeClauseCount clauseCountIn
-small-tree m h = (
-  leb→le (treeOutputCount m) 160 (every-range (λ k. leb (treeOutputCount k) 160) 0 33 tt m (omega arith) (omega arith)),
-  leb→le (treeClauseCount m) 1312 (every-range (λ k. leb (treeClauseCount k) 1312) 0 33 tt m (omega arith) (omega arith)),
-)
+outputs-first : (m : ℕ) → m ≤ 1 → treeOutputCount m ≤ treeOutputCount (suc m)
+unfolding treeOutputCount outputCountIn
+outputs-first zero h = omega arith
+outputs-first (suc zero) h = omega arith
+outputs-first (suc (suc k)) h = absurd (omega arith)
 
-module _ (n : ℕ) (few : n ≤ 32) (r : Group) (s : Stable n r) where
-  open-32 : openCount r ≤ 32
+clauses-first : (m : ℕ) → m ≤ 1 → treeClauseCount m ≤ treeClauseCount (suc m)
+unfolding treeClauseCount clauseCountIn
+clauses-first zero h = omega arith
+clauses-first (suc zero) h = omega arith
+clauses-first (suc (suc k)) h = absurd (omega arith)
+
+module _ (m : ℕ) (two : 2 ≤ m) where
+  -- a size one larger has the right half for its left, and one more than the left half for its right
+  left-half : suc m / 2 ≡ m - m / 2
+  left-half = omega arith
+
+  right-half : suc m - suc m / 2 ≡ suc (m / 2)
+  right-half = omega arith
+
+  outputs-next : treeOutputCount (m / 2) ≤ treeOutputCount (suc (m / 2)) → treeOutputCount m ≤ treeOutputCount (suc m)
+  outputs-next ih =
+      let y : treeOutputCount (suc m) ≡ suc m + treeOutputCount (m - m / 2) + treeOutputCount (suc (m / 2)) =
+      output-count-step (suc m) (omega arith) ∙ ap₂ (λ (i j : ℕ). suc m + treeOutputCount i + treeOutputCount j) left-half right-half in
+      omega (arith, output-count-step m two, y, ih)
+
+  clauses-next : treeClauseCount (m / 2) ≤ treeClauseCount (suc (m / 2)) → treeClauseCount m ≤ treeClauseCount (suc m)
+  clauses-next ih =
+      let a = m / 2 in
+      let b = m - m / 2 in
+      let y : treeClauseCount (suc m) ≡ treeClauseCount b + treeClauseCount (suc a) + 2 * ((b + 1) * (suc a + 1)) - 2 =
+      clause-count-step (suc m) (omega arith)
+      ∙ ap₂ (λ (i j : ℕ). treeClauseCount i + treeClauseCount j + 2 * ((i + 1) * (j + 1)) - 2) left-half right-half in
+      let z : (a + 1) * (b + 1) ≤ (b + 1) * (suc a + 1) = le-trans (le-of-eq (mul-comm (a + 1) (b + 1))) (mul-le-mul (le-refl (b + 1)) (omega arith)) in
+      omega (arith, clause-count-step m two, y, ih, z)
+
+-- what holds of sizes 0 and 1, and of a size where it holds of its left half, holds of every size
+by-halves : (P : ℕ → Type 0) → ((m : ℕ) → m ≤ 1 → P m) → ((m : ℕ) → 2 ≤ m → P (m / 2) → P m) → (m : ℕ) → P m
+by-halves P one more m = go m m (le-refl m)
+  where
+    go : (f m : ℕ) → m ≤ f → P m
+    go zero m h = one m (omega arith)
+    go (suc f) m h = elim (decLe 2 m) [ yes l ↦ more m l (go f (m / 2) (omega arith)) | no l ↦ one m (omega arith) ]
+
+-- a number that never falls from one size to the next
+rising : (f : ℕ → ℕ) → ((m : ℕ) → f m ≤ f (suc m)) → (m d : ℕ) → f m ≤ f (m + d)
+rising f next m zero = le-of-eq (ap f (omega arith))
+rising f next m (suc d) = le-trans (rising f next m d) (le-trans (next (m + d)) (le-of-eq (ap f (omega arith))))
+
+up-to : (f : ℕ → ℕ) → ((m : ℕ) → f m ≤ f (suc m)) → (m n : ℕ) → m ≤ n → f m ≤ f n
+up-to f next m n h = let e : m + (n - m) ≡ n = omega arith in subst (λ (k : ℕ). f m ≤ f k) e (rising f next m (n - m))
+
+pub outputs-mono : (m n : ℕ) → m ≤ n → treeOutputCount m ≤ treeOutputCount n
+outputs-mono = up-to treeOutputCount (by-halves (λ m. treeOutputCount m ≤ treeOutputCount (suc m)) outputs-first outputs-next)
+
+pub clauses-mono : (m n : ℕ) → m ≤ n → treeClauseCount m ≤ treeClauseCount n
+clauses-mono = up-to treeClauseCount (by-halves (λ m. treeClauseCount m ≤ treeClauseCount (suc m)) clauses-first clauses-next)
+
+-- ---- a group among n entrants
+
+module _ (n : ℕ) (r : Group) (s : SettledAmong n r) where
+  pub open-few : openCount r ≤ n
   unfolding openCount
-  open-32 = le-trans (size-le n (openOf r) (open-lt n r s)) few
+  open-few = size-le n (openOf r) (open-lt n r s)
 
-  outputs-160 : outputsOf r ≤ 160
+  outputs-few : outputsOf r ≤ treeOutputCount n
   unfolding outputsOf
-  outputs-160 = go (counted r)
+  outputs-few = go (counted r)
     where
-      go : (b : Bool) → cond b (treeOutputCount (openCount r)) 0 ≤ 160
-      go true = small-tree (openCount r) open-32 .0
+      go : (b : Bool) → cond b (treeOutputCount (openCount r)) 0 ≤ treeOutputCount n
+      go true = outputs-mono (openCount r) n open-few
       go false = omega arith
 
-  clauses-1344 : groupClauseCount r ≤ 1344
+  clause-count-few : groupClauseCount r ≤ treeClauseCount n + n
   unfolding groupClauseCount
-  clauses-1344 = go (counted r)
+  clause-count-few = go (counted r)
     where
-      go : (b : Bool) → cond b (treeClauseCount (openCount r) + atLeast r + (openCount r - atMost r)) 0 ≤ 1344
+      go : (b : Bool) → cond b (treeClauseCount (openCount r) + atLeast r + (openCount r - atMost r)) 0 ≤ treeClauseCount n + n
       go true =
-          let l = limits-of n r s in
-          omega (arith, small-tree (openCount r) open-32 .1, open-32, l .low-high, l .high-open)
+          let l = limits-of r (s .group) in
+          omega (arith, clauses-mono (openCount r) n open-few, open-few, l .low-high, l .high-open)
       go false = omega arith
 
-module _ (m : Model) (r : T (inRange m)) (fix : T (isFixpoint m)) (z : Sized m) where
-  stables : All (Stable (m .n)) (tableOf m)
-  stables = table-stable m fix r
+-- V is at most s·(n + A(n))
+pub variables-formula : (m : Model) → Settled m → variableCount m ≤ m .s * (m .n + treeOutputCount (m .n))
+unfolding variableCount tableVariables
+variables-formula m q =
+    let t = tableOf m in
+    let n = m .n in
+    let a : ℕ = treeOutputCount n in
+    let x = total-le openCount n t (all-imp (SettledAmong n) (λ g. openCount g ≤ n) (open-few n) t (table-settled m q)) in
+    let y = total-le outputsOf a t (all-imp (SettledAmong n) (λ g. outputsOf g ≤ a) (outputs-few n) t (table-settled m q)) in
+    let e : length t * n + length t * a ≡ m .s * (n + a) = sym (mul-add (length t) n a) ∙ ap (λ (k : ℕ). k * (n + a)) (table-length m (q .sized)) in
+    omega (arith, x, y, e)
 
-  few : m .n ≤ 32
-  few = in-range m r .entrants
+-- ---- the numbers, at the largest n, s and c
 
-  many : length (tableOf m) ≤ 256
-  many = let h = in-range m r .groupCount in omega (arith, table-length m z)
+-- digits of a variable; bytes of a literal with its sign and its space, of a clause of three literals, and of an entrant's clauses of the longest code
+abbrev digitCount : ℕ
+digitCount = 5
 
-  -- V is at most 49,152
-  pub variables-bound : variableCount (tableOf m) ≤ limits .variables
-  unfolding variableCount
-  variables-bound =
-      let t = tableOf m in
-      let x = total-le openCount 32 t (all-imp (Stable (m .n)) (λ g. openCount g ≤ 32) (open-32 (m .n) few) t stables) in
-      let y = total-le outputsOf 160 t (all-imp (Stable (m .n)) (λ g. outputsOf g ≤ 160) (outputs-160 (m .n) few) t stables) in
-      omega (arith, many, x, y)
+abbrev literalBytes : ℕ
+literalBytes = digitCount + 2
 
--- ---- text, of clauses whose variables have at most five digits
+abbrev clauseBytes : ℕ → ℕ
+clauseBytes k = literalBytes * k + 2
+
+abbrev entrantBytes : ℕ
+entrantBytes = clauseBytes (limits .members) + (limits .members - 1) * clauseBytes 2
+
+few-digits : limits .variables < 10 ^ digitCount
+few-digits = omega arith
+
+module _ (n : ℕ) (few : n ≤ limits .entrants) where
+  most-variables : (s : ℕ) → s ≤ limits .groups → s * (n + treeOutputCount n) ≤ limits .variables
+  most-variables s h =
+      le-trans (mul-le-mul {n₂ = limits .groups} {m₂ = limits .entrants + treeOutputCount (limits .entrants)} h (omega (arith, outputs-mono n (limits .entrants) few)))
+      (unfold treeOutputCount outputCountIn in omega arith)
+
+  most-group-bytes : (treeClauseCount n + n) * clauseBytes 3 ≤ limits .block
+  most-group-bytes =
+      le-trans (mul-le-mul {n₂ = treeClauseCount (limits .entrants) + limits .entrants} {m₂ = clauseBytes 3} (omega (arith, clauses-mono n (limits .entrants) few)) (le-refl (clauseBytes 3)))
+      (unfold treeClauseCount clauseCountIn in omega arith)
+
+  most-constraint-bytes : n * entrantBytes ≤ limits .block
+  most-constraint-bytes = omega arith
+
+  -- a block has no more clauses than bytes
+  pub group-clauses-bound : (r : Group) → SettledAmong n r → groupClauseCount r ≤ limits .block
+  group-clauses-bound r s = let x = clause-count-few n r s in omega (arith, most-group-bytes)
+
+-- "V is at most 49,152"
+pub variables-bound : (m : Model) → Settled m → variableCount m ≤ limits .variables
+variables-bound m q =
+    let r = in-range m (q .in-range) in
+    le-trans (variables-formula m q) (most-variables (m .n) (r .entrants) (m .s) (r .groupCount))
+
+-- ---- text, of clauses whose variables are short
 
 abbrev Short : Literal → Type 0
-Short l = variable l < 100000
+Short l = variable l < 10 ^ digitCount
 
-literal-7 : (l : Literal) → Short l → length (literalText l) ≤ 7
+literal-bytes : (l : Literal) → Short l → length (literalText l) ≤ literalBytes
 unfolding literalText
-literal-7 (Pos v) h = omega (arith, length-append (decimal v) (32 ∷ []), digits-5 v h)
-literal-7 (Neg v) h = omega (arith, length-append (decimal v) (32 ∷ []), digits-5 v h)
+literal-bytes (Pos v) h = omega (arith, length-append (decimal v) (32 ∷ []), decimal-bound 4 v h)
+literal-bytes (Neg v) h = omega (arith, length-append (decimal v) (32 ∷ []), decimal-bound 4 v h)
 
-clause-bytes : (c : List Literal) → All Short c → length (clauseText c) ≤ 7 * length c + 2
+clause-bytes : (c : List Literal) → All Short c → length (clauseText c) ≤ clauseBytes (length c)
 unfolding clauseText
 clause-bytes c h =
     let e = length-each literalText c in
-    let x = total-le (λ l. length (literalText l)) 7 c (all-imp Short (λ l. length (literalText l) ≤ 7) literal-7 c h) in
+    let x = total-le (λ l. length (literalText l)) literalBytes c (all-imp Short (λ l. length (literalText l) ≤ literalBytes) literal-bytes c h) in
     omega (arith, length-append (each literalText c) (48 ∷ 10 ∷ []), e, x)
 
 -- ---- a group's block: clauses of at most three literals
@@ -177,35 +265,35 @@ group-three t g = go (counted r)
         )
     go false = tt
 
-clauses-bytes : (cs : List (List Literal)) → All (All Short) cs → All Three cs → length (each clauseText cs) ≤ length cs * 23
+clauses-bytes : (cs : List (List Literal)) → All (All Short) cs → All Three cs → length (each clauseText cs) ≤ length cs * clauseBytes 3
 clauses-bytes cs h k =
     let e = length-each clauseText cs in
     let x =
-    total-le (λ c. length (clauseText c)) 23 cs
-    (all-imp (λ c. All Short c × Three c) (λ c. length (clauseText c) ≤ 23) (λ c p. let q = p .1 in omega (arith, clause-bytes c (p .0))) cs
+    total-le (λ c. length (clauseText c)) (clauseBytes 3) cs
+    (all-imp (λ c. All Short c × Three c) (λ c. length (clauseText c) ≤ clauseBytes 3) (λ c p. let q = p .1 in omega (arith, clause-bytes c (p .0))) cs
     (all-zip (All Short) Three cs h k)) in
     omega (arith, e, x)
 
 -- ---- a constraint's block
 
 abbrev bytesOf : List Literal → ℕ
-bytesOf ls = 7 * length ls + 2
+bytesOf ls = clauseBytes (length ls)
 
--- at most 377 bytes for an entrant
+-- no more bytes for an entrant than the longest code has
 Modest : Constraint → Type 0
-Modest c = total bytesOf (clausesOf c) ≤ 377
+Modest c = total bytesOf (clausesOf c) ≤ entrantBytes
 
 total-members : (c : Constraint) → total bytesOf (clausesOf c) ≡ total bytesOf (memberClauses (c .code) (c .count))
 unfolding clausesOf
 total-members c =
     total-map bytesOf (map (ofGroup (c .groups))) (memberClauses (c .code) (c .count))
-    ∙ total-ext (λ ls. bytesOf (map (ofGroup (c .groups)) ls)) bytesOf (λ ls. ap (λ (k : ℕ). 7 * k + 2) (length-map ls (ofGroup (c .groups)))) (memberClauses (c .code) (c .count))
+    ∙ total-ext (λ ls. bytesOf (map (ofGroup (c .groups)) ls)) bytesOf (λ ls. ap clauseBytes (length-map ls (ofGroup (c .groups)))) (memberClauses (c .code) (c .count))
 
 modest : (s : ℕ) (c : Constraint) → T (constraintInRange s c) → Modest c
 unfolding memberClauses shortClauses unionClauses Modest
 modest s c t =
     rw (total-members c)
-    (by-code (λ code. (code ≡ 6 → c .count ≤ 16) → total bytesOf (memberClauses code (c .count)) ≤ 377)
+    (by-code (λ code. (code ≡ 6 → c .count ≤ limits .members - 1) → total bytesOf (memberClauses code (c .count)) ≤ entrantBytes)
     (λ h. omega arith) (λ h. omega arith) (λ h. omega arith) (λ h. omega arith) (λ h. omega arith)
     (λ h. let k = h refl in
     omega (
@@ -214,19 +302,19 @@ modest s c t =
       length-map (range 1 (c .count)) Pos,
       range-length 1 (c .count),
       total-map bytesOf (λ i. Neg i ∷ Pos 0 ∷ []) (range 1 (c .count)),
-      total-const (λ i. bytesOf (Neg i ∷ Pos 0 ∷ [])) 16 1 (c .count) (λ j l u. refl),
+      total-const (λ i. bytesOf (Neg i ∷ Pos 0 ∷ [])) (clauseBytes 2) 1 (c .count) (λ j l u. refl),
     ))
-    (c .code) (code-six s c t) (count-in s c t))
+    (c .code) (by-entrant (c .code) (c .count) (constraint-code s c t)) (count-in (c .code) (c .count) (constraint-code s c t)))
 
-kept-bytes : (ts : List Term) → All (All Short) (keep ts) → length (each clauseText (keep ts)) ≤ 7 * length ts + 2
+kept-bytes : (ts : List Term) → All (All Short) (keep ts) → length (each clauseText (keep ts)) ≤ clauseBytes (length ts)
 unfolding keep
 kept-bytes ts h = go (any holds ts) h
   where
-    go : (b : Bool) → All (All Short) (cond b [] (literals ts ∷ [])) → length (each clauseText (cond b [] (literals ts ∷ []))) ≤ 7 * length ts + 2
+    go : (b : Bool) → All (All Short) (cond b [] (literals ts ∷ [])) → length (each clauseText (cond b [] (literals ts ∷ []))) ≤ clauseBytes (length ts)
     go true h = omega arith
     go false h = omega (arith, clause-bytes (literals ts) (h .0), length-append (clauseText (literals ts)) [], literals-length ts)
 
-entrant-bytes : (t : List Group) (c : Constraint) (e : ℕ) → Modest c → All (All Short) (clausesAt t c e) → length (each clauseText (clausesAt t c e)) ≤ 377
+entrant-bytes : (t : List Group) (c : Constraint) (e : ℕ) → Modest c → All (All Short) (clausesAt t c e) → length (each clauseText (clausesAt t c e)) ≤ entrantBytes
 unfolding clausesAt Modest
 entrant-bytes t c e k h =
     let f : List Literal → List (List Literal) = λ ls. keep (map (termOf t e) ls) in
@@ -238,14 +326,14 @@ entrant-bytes t c e k h =
     (each-all (All Short) f (clausesOf c) h)) in
     omega (arith, x, y)
 
-constraint-bytes : (n : ℕ) (t : List Group) (c : Constraint) → n ≤ 32 → Modest c → All (All Short) (constraintClauses n t c)
-    → length (each clauseText (constraintClauses n t c)) ≤ 12064
+constraint-bytes : (n : ℕ) (t : List Group) (c : Constraint) → Modest c → All (All Short) (constraintClauses n t c)
+    → length (each clauseText (constraintClauses n t c)) ≤ n * entrantBytes
 unfolding constraintClauses
-constraint-bytes n t c few k h =
+constraint-bytes n t c k h =
     let x = ap length (each-each clauseText (clausesAt t c) (range 0 n)) ∙ length-each (λ e. each clauseText (clausesAt t c e)) (range 0 n) in
     let y =
-    total-le (λ e. length (each clauseText (clausesAt t c e))) 377 (range 0 n)
-    (all-imp (λ e. All (All Short) (clausesAt t c e)) (λ e. length (each clauseText (clausesAt t c e)) ≤ 377) (λ e q. entrant-bytes t c e k q) (range 0 n)
+    total-le (λ e. length (each clauseText (clausesAt t c e))) entrantBytes (range 0 n)
+    (all-imp (λ e. All (All Short) (clausesAt t c e)) (λ e. length (each clauseText (clausesAt t c e)) ≤ entrantBytes) (λ e q. entrant-bytes t c e k q) (range 0 n)
     (each-all (All Short) (clausesAt t c) (range 0 n) h)) in
     omega (arith, x, y, range-length 0 n)
 
@@ -258,72 +346,78 @@ clauses-few (c ∷ cs) =
 
 -- ---- every block
 
-module _ (m : Model) (r : T (inRange m)) (fix : T (isFixpoint m)) (z : Sized m) where
+module _ (m : Model) (q : Settled m) where
+  few : m .n ≤ limits .entrants
+  few = in-range m (q .in-range) .entrants
+
   shorts : (cs : List (List Literal)) → VariablesIn m cs → All (All Short) cs
   shorts cs h =
-      all-imp (All (In 1 (suc (variableCount (tableOf m))))) (All Short)
-      (λ c q. all-imp (In 1 (suc (variableCount (tableOf m)))) Short (λ l p. let u = p .1 in omega (arith, variables-bound m r fix z)) c q) cs h
+      all-imp (All (In 1 (suc (variableCount m)))) (All Short)
+      (λ c k. all-imp (In 1 (suc (variableCount m))) Short (λ l p. let u = p .1 in omega (arith, variables-bound m q, few-digits)) c k) cs h
 
-  group-bytes : (g : ℕ) → 1 ≤ g → g ≤ m .s → length (each clauseText (groupClauses (tableOf m) g)) ≤ 30912
+  group-bytes : (g : ℕ) → 1 ≤ g → g ≤ m .s → length (each clauseText (groupClauses (tableOf m) g)) ≤ limits .block
   unfolding groupAt
   group-bytes g h k =
       let cs = groupClauses (tableOf m) g in
-      let x = clauses-bytes cs (shorts cs (group-variables m r fix z g h k)) (group-three (tableOf m) g) in
-      let y =
-      clauses-1344 (m .n) (few m r fix z) (groupAt (tableOf m) g)
-      (all-place (Stable (m .n)) zeroGroup (tableOf m) (stables m r fix z) (g - 1) (omega (arith, table-length m z))) in
-      omega (arith, x, y, group-length (tableOf m) g)
+      let x = clauses-bytes cs (shorts cs (group-variables m q g h k)) (group-three (tableOf m) g) in
+      let s = all-place (SettledAmong (m .n)) zeroGroup (tableOf m) (table-settled m q) (g - 1) (omega (arith, table-length m (q .sized))) in
+      let y = clause-count-few (m .n) (groupAt (tableOf m) g) s in
+      omega (arith, x, y, group-length (tableOf m) g, most-group-bytes (m .n) few)
 
-  line-bytes : (c : Constraint) → Modest c → length (each clauseText (constraintClauses (m .n) (tableOf m) c)) ≤ 12064
-  line-bytes c k = constraint-bytes (m .n) (tableOf m) c (few m r fix z) k (shorts (constraintClauses (m .n) (tableOf m) c) (constraint-variables m r fix z c))
+  constraint-block-bytes : (c : Constraint) → Modest c → length (each clauseText (constraintClauses (m .n) (tableOf m) c)) ≤ limits .block
+  constraint-block-bytes c k =
+      le-trans (constraint-bytes (m .n) (tableOf m) c k (shorts (constraintClauses (m .n) (tableOf m) c) (constraint-variables m q c)))
+      (most-constraint-bytes (m .n) few)
 
   all-modest : All Modest (constraintsOf m)
   all-modest =
       all-imp (λ c. T (constraintInRange (m .s) c)) Modest (modest (m .s)) (constraintsOf m)
-      (every-all (constraintInRange (m .s)) (constraintsOf m) (in-range m r .constraints))
+      (every-all (constraintInRange (m .s)) (constraintsOf m) (in-range m (q .in-range) .constraints))
 
   zero-modest : Modest zeroConstraint
   unfolding zeroConstraint clausesOf memberClauses shortClauses Modest
   zero-modest = omega arith
 
-  count-bound : clauseCount m < 10000000
+  -- C: no block has more clauses than bytes
+  count-bound : clauseCount m ≤ (m .s + m .c) * limits .block
   unfolding clauseCount
   count-bound =
       let t = tableOf m in
-      let x = total-le groupClauseCount 1344 t (all-imp (Stable (m .n)) (λ g. groupClauseCount g ≤ 1344) (clauses-1344 (m .n) (few m r fix z)) t (stables m r fix z)) in
+      let x =
+      total-le groupClauseCount (limits .block) t
+      (all-imp (SettledAmong (m .n)) (λ g. groupClauseCount g ≤ limits .block) (group-clauses-bound (m .n) few) t (table-settled m q)) in
       let y =
-      total-le (λ c. length (constraintClauses (m .n) t c)) 12064 (constraintsOf m)
-      (all-imp Modest (λ c. length (constraintClauses (m .n) t c) ≤ 12064) (λ c k. le-trans (clauses-few (constraintClauses (m .n) t c)) (line-bytes c k)) (constraintsOf m) all-modest) in
-      omega (arith, x, y, many m r fix z, constraints-length m z, in-range m r .constraintCount)
+      total-le (λ c. length (constraintClauses (m .n) t c)) (limits .block) (constraintsOf m)
+      (all-imp Modest (λ c. length (constraintClauses (m .n) t c) ≤ limits .block)
+      (λ c k. le-trans (clauses-few (constraintClauses (m .n) t c)) (constraint-block-bytes c k)) (constraintsOf m) all-modest) in
+      omega (arith, x, y, table-length m (q .sized), constraints-length m (q .sized))
 
-  header-bytes : length (headerText m) ≤ 20
+  header-bytes : length (headerText m) ≤ limits .block
   unfolding headerText
   header-bytes =
-      let vs = decimal (variableCount (tableOf m)) in
+      let vs = decimal (variableCount m) in
       let ks = decimal (clauseCount m) in
       let h : List ℕ = 112 ∷ 32 ∷ 99 ∷ 110 ∷ 102 ∷ 32 ∷ [] in
+      let i = in-range m (q .in-range) in
       omega (
         arith,
         length-append (h ++ vs ++ (32 ∷ []) ++ ks) (10 ∷ []),
         length-append (h ++ vs ++ (32 ∷ [])) ks,
         length-append (h ++ vs) (32 ∷ []),
         length-append h vs,
-        digits-5 (variableCount (tableOf m)) (omega (arith, variables-bound m r fix z)),
-        digits-7 (clauseCount m) count-bound,
+        decimal-bound 4 (variableCount m) (omega (arith, variables-bound m q, few-digits)),
+        decimal-bound 8 (clauseCount m) (omega (arith, count-bound, i .groupCount, i .constraintCount)),
       )
 
-  -- 32,768 bytes hold each block
+  -- "32,768 bytes hold each block"
   pub block-bound : (b : ℕ) → length (blockText m b) ≤ limits .block
   unfolding blockText
-  block-bound zero = omega (arith, header-bytes)
+  block-bound zero = header-bytes
   block-bound (suc b) = rw (eqb·suc-zero b) (go (decLe (suc b) (m .s)))
     where
-      go : Dec (suc b ≤ m .s) → length (each clauseText (blockClauses m (suc b))) ≤ 32768
-      go (yes h) = rw (group-block m z (suc b) h) (omega (arith, group-bytes (suc b) (omega arith) h))
+      go : Dec (suc b ≤ m .s) → length (each clauseText (blockClauses m (suc b))) ≤ limits .block
+      go (yes h) = rw (group-block m (q .sized) (suc b) h) (group-bytes (suc b) (omega arith) h)
       go (no h) =
-          rw (constraint-block m z (suc b) (omega arith))
-          (omega (
-            arith,
-            line-bytes (getD (constraintsOf m) (suc b - m .s - 1) zeroConstraint)
-                (all-getD Modest zeroConstraint zero-modest (constraintsOf m) all-modest (suc b - m .s - 1)),
-          ))
+          rw (constraint-block m (q .sized) (suc b) (omega arith))
+          (constraint-block-bytes (getD (constraintsOf m) (suc b - m .s - 1) zeroConstraint)
+          (all-getD Modest zeroConstraint zero-modest (constraintsOf m) all-modest (suc b - m .s - 1)))

@@ -1,10 +1,10 @@
--- Decimal numbers read back. Assumes nothing.
+-- Decimal numbers: digit by digit, read back, and how long they are. Assumes nothing.
 use mathlib.Core.Path.{_≡_, refl, sym, ap, _∙_, subst}
 use mathlib.Core.Bool.{Bool, true, false, _&&_, cond}
 use mathlib.Core.List.{List, [], _∷_, _++_}
 use mathlib.Core.Option.{none, some}
-use Prim.Native.Nat.{ℕ, zero, suc, _+_, _-_, _*_, _/_, _%_, _≤_, _<_}
-use native.Mathlib.Nat.{le-trans, le-of-eq}
+use Prim.Native.Nat.{ℕ, zero, suc, _+_, _-_, _*_, _/_, _%_, _^_, _≤_, _<_}
+use native.Mathlib.Nat.{le-of-eq, pow-suc}
 use native.Mathlib.Omega.{arith}
 use native.Mathlib.Decide.{decLt}
 use borrow.Author.Tests.{lt-ltb, le-ltb, le-leb, ne-eqb}
@@ -23,6 +23,22 @@ digits-small p v h = rw (lt-ltb v 10 h, digits)
 digits-more : (p v : ℕ) → 10 ≤ v → digits (suc p) v ≡ digits p (v / 10) ++ ((48 + v % 10) ∷ [])
 unfolding digits
 digits-more p v h = rw (le-ltb v 10 h, digits)
+
+fuel : (p q v : ℕ) → v < p → v < q → digits p v ≡ digits q v
+fuel zero q v hp hq = absurd (omega arith)
+fuel (suc p) zero v hp hq = absurd (omega arith)
+fuel (suc p) (suc q) v hp hq = elim (decLt v 10) [ yes h ↦ digits-small p v h ∙ sym (digits-small q v h) | no h ↦ step (fuel p q (v / 10)) (omega arith) ]
+  where
+    step : (v / 10 < p → v / 10 < q → digits p (v / 10) ≡ digits q (v / 10)) → 10 ≤ v → digits (suc p) v ≡ digits (suc q) v
+    step ih h = digits-more p v h ∙ ap (λ (l : List ℕ). l ++ (48 + v % 10) ∷ []) (ih (omega arith) (omega arith)) ∙ sym (digits-more q v h)
+
+pub decimal-small : (v : ℕ) → v < 10 → decimal v ≡ (48 + v % 10) ∷ []
+unfolding decimal
+decimal-small v h = digits-small v v h ∙ ap (λ (d : ℕ). (48 + d) ∷ []) (omega arith)
+
+pub decimal-more : (v : ℕ) → 10 ≤ v → decimal v ≡ decimal (v / 10) ++ (48 + v % 10) ∷ []
+unfolding decimal
+decimal-more v h = digits-more v v h ∙ ap (λ (l : List ℕ). l ++ (48 + v % 10) ∷ []) (fuel v (suc (v / 10)) (v / 10) (omega arith) (omega arith))
 
 -- what holds of the digits of one digit, and of more where it holds of those before the last
 by-digits : (P : ℕ → List ℕ → Type 0) → ((v : ℕ) → v < 10 → P v ((48 + v) ∷ []))
@@ -84,9 +100,8 @@ decimal-first =
       λ k. rw (List·getD-append ds ((48 + v % 10) ∷ []) 0 0 some) (e .1 (omega arith)),
     )) v .1 h
 
-decimal-one : (v : ℕ) → v < 10 → length (decimal v) ≡ 1
-unfolding decimal
-decimal-one v h = ap length (digits-small v v h)
+pub decimal-one : (v : ℕ) → v < 10 → length (decimal v) ≡ 1
+decimal-one v h = ap length (decimal-small v h)
 
 pub decimal-number : (v : ℕ) → numberOf (decimal v) ≡ some v
 unfolding numberOf
@@ -114,33 +129,15 @@ decimal-natural v = go (decimal v) (decimal-some v) (decimal-reads v)
 
 -- ---- how many
 
-digits-1 : (v : ℕ) → v < 10 → length (decimal v) ≤ 1
-digits-1 v h = le-of-eq (decimal-one v h)
+pub decimal-length : (v : ℕ) → 10 ≤ v → length (decimal v) ≡ length (decimal (v / 10)) + 1
+decimal-length v h = rw (decimal-more v h) (rw length-append)
 
-decimal-length : (v : ℕ) → 10 ≤ v → length (decimal v) ≤ length (decimal (v / 10)) + 1
-unfolding decimal
-decimal-length v h = rw (digits-more v v h) (omega (arith, length-append (digits v (v / 10)) ((48 + v % 10) ∷ []), fuel v (suc (v / 10)) (v / 10) (omega arith) (omega arith)))
+pub decimal-bound : (k v : ℕ) → v < 10 ^ suc k → length (decimal v) ≤ suc k
+decimal-bound zero v h = le-of-eq (decimal-one v (omega arith))
+decimal-bound (suc k) v h = go (decLt v 10) (decimal-bound k (v / 10))
   where
-    fuel : (p q v : ℕ) → v < p → v < q → length (digits p v) ≡ length (digits q v)
-    fuel zero q v hp hq = absurd (omega arith)
-    fuel (suc p) zero v hp hq = absurd (omega arith)
-    fuel (suc p) (suc q) v hp hq = choose (decLt v 10) (fuel p q (v / 10))
-      where
-        choose : Dec (v < 10) → (v / 10 < p → v / 10 < q → length (digits p (v / 10)) ≡ length (digits q (v / 10))) → length (digits (suc p) v) ≡ length (digits (suc q) v)
-        choose (yes l) ih = ap length (digits-small p v l ∙ sym (digits-small q v l))
-        choose (no l) ih =
-            rw (digits-more p v (omega arith), digits-more q v (omega arith))
-            (length-append (digits p (v / 10)) ((48 + v % 10) ∷ []) ∙ ap (λ (k : ℕ). k + 1) (ih (omega arith) (omega arith)) ∙ sym (length-append (digits q (v / 10)) ((48 + v % 10) ∷ [])))
-
-more : (N k : ℕ) → ((v : ℕ) → v < N → length (decimal v) ≤ k) → 0 < k → (v : ℕ) → v < 10 * N → length (decimal v) ≤ k + 1
-more N k below pos v h = go (decLt v 10)
-  where
-    go : Dec (v < 10) → length (decimal v) ≤ k + 1
-    go (yes l) = le-trans (digits-1 v l) (omega arith)
-    go (no l) = omega (arith, below (v / 10) (omega arith), decimal-length v (omega arith))
-
-pub digits-5 : (v : ℕ) → v < 100000 → length (decimal v) ≤ 5
-digits-5 = more 10000 4 (more 1000 3 (more 100 2 (more 10 1 digits-1 (omega arith)) (omega arith)) (omega arith)) (omega arith)
-
-pub digits-7 : (v : ℕ) → v < 10000000 → length (decimal v) ≤ 7
-digits-7 = more 1000000 6 (more 100000 5 digits-5 (omega arith)) (omega arith)
+    go : Dec (v < 10) → (v / 10 < 10 ^ suc k → length (decimal (v / 10)) ≤ suc k) → length (decimal v) ≤ suc (suc k)
+    go (yes l) ih = omega (arith, decimal-one v l)
+    go (no l) ih =
+        let e : 10 ^ suc (suc k) ≡ 10 ^ suc k * 10 = pow-suc 10 (suc k) in
+        omega (arith, decimal-length v (omega arith), ih (omega (arith, e)))

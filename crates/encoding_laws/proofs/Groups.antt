@@ -11,11 +11,10 @@ use Rattle.model.specs.declared.Group.{Group}
 use Rattle.model.specs.declared.Constraint.{Constraint}
 use Rattle.model.specs.declared.Model.{Model}
 use Rattle.model.specs.Lists.{each, total, range}
-use Rattle.model.specs.Model.{zeroGroup, zeroConstraint, groupAt, tableOf, constraintsOf}
-use Rattle.model.specs.Cnf.{openCount, outputsOf, firstVariable, firstOutput, groupClauses, constraintClauses, blockClauses, clauses, groupClauseCount, clauseCount}
+use Rattle.model.specs.Model.{zeroGroup, zeroConstraint, groupAt, tableOf, constraintsOf, Sized}
+use Rattle.model.specs.Cnf.{openCount, outputsOf, firstVariable, firstOutput, groupClauses, constraintClauses, blockClauses, blockCount, clauses, groupClauseCount, clauseCount}
 use Rattle.model.proofs.Lists.{each-append, each-map, each-range-ext, range-append, length-each, total-ext, total-map, values-make, places}
 use Rattle.encoding_laws.proofs.Counts.{group-length}
-use Rattle.encoding_laws.proofs.Sized.{Sized}
 
 module _ (m : Model) (z : Sized m) where
   pub table-length : length (tableOf m) ≡ m .s
@@ -37,7 +36,7 @@ module _ (m : Model) (z : Sized m) where
 
   -- the groups' clauses, then the constraints'
   pub clauses-parts : clauses m ≡ each (groupClauses (tableOf m)) (range 1 (m .s)) ++ each (constraintClauses (m .n) (tableOf m)) (constraintsOf m)
-  unfolding clauses
+  unfolding clauses blockCount
   clauses-parts =
       ap (each (blockClauses m)) (range-append 1 (m .s) (m .c))
       ∙ each-append (blockClauses m) (range 1 (m .s)) (range (1 + m .s) (m .c))

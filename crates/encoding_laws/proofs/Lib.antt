@@ -1,4 +1,3 @@
-pub mod Sized
 pub mod Truth
 pub mod Node
 pub mod Tree
@@ -6,9 +5,7 @@ pub mod Totalizer
 pub mod Counts
 pub mod Groups
 pub mod Fixpoint
-pub mod Members
 pub mod Nonempty
-pub mod Meaning
 pub mod Row
 pub mod Whole
 pub mod Ranges

@@ -150,7 +150,3 @@ module _ (a : List Bool) (c left d right o x y : ℕ) (hx : x ≤ left) (hy : y 
     where
       value : (r : ℕ) → N r ≡ leb r (x + y)
       value r = output-true a o (left + right) (x + y) (omega arith) u r
-
-  -- a node's clauses hold exactly when its outputs are the unary count of the sum
-  pub node-iff : T (allTrue a (nodeClauses c left d right o)) ↔ Unary a o (left + right) (x + y)
-  node-iff = (node→, node←)

@@ -18,17 +18,17 @@ use Rattle.model.specs.declared.Model.{Model}
 use Rattle.model.specs.Lists.{any, range, isEmpty}
 use Rattle.model.specs.Words.{full, less, bit, has}
 use Rattle.model.specs.Clauses.{memberCount, memberClauses, shortClauses, ofGroup, clausesOf}
-use Rattle.model.specs.Model.{zeroGroup, zeroConstraint, groupAt, tableOf, constraintsOf, constraintInRange, inRange}
-use Rattle.model.specs.Propagate.{falseIn, allFalse, fixedWith, possibleWithout, madeTrue, literalRule, clauseRule, isFixpoint}
+use Rattle.model.specs.Model.{zeroGroup, zeroConstraint, groupAt, tableOf, constraintsOf, constraintInRange}
+use Rattle.model.specs.Propagate.{falseIn, allFalse, fixedWith, possibleWithout, madeTrue, literalRule, clauseRule, Settled}
 use Rattle.model.specs.Totalizer.{oppositeTerm, holds, literals, keep}
 use Rattle.model.specs.Cnf.{membership, termOf, variableOf, clausesAt, constraintClauses, blockClauses}
 use Rattle.model.specs.Text.{hasEmptyClause}
 use Rattle.model.specs.Assignment.{variable}
 use Rattle.model.proofs.Words.{bit-le, bit-and, bit-or, bit-less, bit-full, has-one, has-none}
 use Rattle.model.proofs.Lists.{All, all-map-iff, all-each, range-all, all-imp, all-zip, all-getD, all-place, every-all, place-getD}
-use Rattle.encoding_laws.proofs.Sized.{Sized}
-use Rattle.encoding_laws.proofs.Fixpoint.{Stable, in-range, table-stable, clauses-keep, first-keeps}
-use Rattle.encoding_laws.proofs.Members.{members-clear, code-six, member-below}
+use Rattle.model.proofs.Codes.{by-entrant, members-clear}
+use Rattle.propagation_laws.proofs.Ranges.{in-range, constraint-code, member-below}
+use Rattle.encoding_laws.proofs.Fixpoint.{SettledAmong, table-settled, clauses-keep, first-keeps}
 use Rattle.encoding_laws.proofs.Groups.{table-length, constraint-block}
 
 abbrev HasLiteral : List Literal → Type 0
@@ -94,7 +94,7 @@ module _ (t : List Group) (e : ℕ) where
   all-false-bit w (l ∷ ls) h f = all-false-bit (falseIn t w l) ls (false-bit w l h (f .0)) (f .1)
 
   -- so its opposite would have been made true
-  made-changes : (n w : ℕ) (l : Literal) → All (Stable n) t → variable l - 1 < length t → bit e w ≡ 1 → termOf t e l ≡ Fails → madeTrue l w t ≡ t → ⊥
+  made-changes : (n w : ℕ) (l : Literal) → All (SettledAmong n) t → variable l - 1 < length t → bit e w ≡ 1 → termOf t e l ≡ Fails → madeTrue l w t ≡ t → ⊥
   unfolding madeTrue termOf fixedWith possibleWithout groupAt fixedBit possibleBit
   made-changes n w (Pos g) s h b f k =
       let r = groupAt t g in
@@ -105,11 +105,11 @@ module _ (t : List Group) (e : ℕ) where
       let r = groupAt t g in
       let p : less (r .possible) w ≡ r .possible =
       ap (λ (x : Group). x .possible) (sym (place-getD (g - 1) (possibleWithout w) t zeroGroup h) ∙ ap (λ (u : List Group). getD u (g - 1) zeroGroup) k) in
-      let q : Stable n r = all-place (Stable n) zeroGroup t s (g - 1) h in
-      omega (arith, ap (bit e) p, bit-less e (r .possible) w, opposite-fails t e g f, q .sub .at e, bit-le e (r .possible))
+      let q : SettledAmong n r = all-place (SettledAmong n) zeroGroup t s (g - 1) h in
+      omega (arith, ap (bit e) p, bit-less e (r .possible) w, opposite-fails t e g f, q .group .fits .at e, bit-le e (r .possible))
 
   -- a clause whose rule changes nothing
-  clause-filled : (n : ℕ) (ls : List Literal) → All (Stable n) t → e < n → HasLiteral ls → All (λ l. variable l - 1 < length t) ls → clauseRule n ls t ≡ t
+  clause-filled : (n : ℕ) (ls : List Literal) → All (SettledAmong n) t → e < n → HasLiteral ls → All (λ l. variable l - 1 < length t) ls → clauseRule n ls t ≡ t
       → All HasLiteral (keep (map (termOf t e) ls))
   unfolding literalRule
   clause-filled n [] s h f g k = absurd f
@@ -125,7 +125,7 @@ module _ (t : List Group) (e : ℕ) where
 
 -- ---- every block
 
-module _ (m : Model) (r : T (inRange m)) (fix : T (isFixpoint m)) (z : Sized m) where
+module _ (m : Model) (q : Settled m) where
   abbrev GoodConstraint : Constraint → Type 0
   GoodConstraint c = All (λ ls. HasLiteral ls × All (λ l. variable l - 1 < length (tableOf m)) ls) (clausesOf c)
 
@@ -140,15 +140,15 @@ module _ (m : Model) (r : T (inRange m)) (fix : T (isFixpoint m)) (z : Sized m) 
         all-map-iff (λ l. variable l - 1 < length (tableOf m)) (ofGroup (c .groups)) ls .1
             (all-imp (λ l. variable l < memberCount (c .code) (c .count)) (λ l. variable (ofGroup (c .groups) l) - 1 < length (tableOf m)) below ls (h .1)),
       ))
-      (memberClauses (c .code) (c .count)) (members-clear (c .code) (c .count) (code-six (m .s) c t)))
+      (memberClauses (c .code) (c .count)) (members-clear (c .code) (c .count) (by-entrant (c .code) (c .count) (constraint-code (m .s) c t))))
     where
       still : (ls : List Literal) → HasLiteral ls → HasLiteral (map (ofGroup (c .groups)) ls)
       still [] h = absurd h
       still (l ∷ ls) h = tt
 
       below : (l : Literal) → variable l < memberCount (c .code) (c .count) → variable (ofGroup (c .groups) l) - 1 < length (tableOf m)
-      below (Pos i) h = omega (arith, member-below (m .s) c t i h, table-length m z, in-range m r .some-group)
-      below (Neg i) h = omega (arith, member-below (m .s) c t i h, table-length m z, in-range m r .some-group)
+      below (Pos i) h = omega (arith, member-below (m .s) c t i h, table-length m (q .sized), in-range m (q .in-range) .some-group)
+      below (Neg i) h = omega (arith, member-below (m .s) c t i h, table-length m (q .sized), in-range m (q .in-range) .some-group)
 
   constraint-filled : (c : Constraint) → GoodConstraint c → All (λ ls. clauseRule (m .n) ls (tableOf m) ≡ tableOf m) (clausesOf c)
       → All HasLiteral (constraintClauses (m .n) (tableOf m) c)
@@ -159,7 +159,7 @@ module _ (m : Model) (r : T (inRange m)) (fix : T (isFixpoint m)) (z : Sized m) 
       (λ e _ h. all-each HasLiteral (λ ls. keep (map (termOf (tableOf m) e) ls)) (clausesOf c)
       (all-imp (λ ls. (HasLiteral ls × All (λ l. variable l - 1 < length (tableOf m)) ls) × (clauseRule (m .n) ls (tableOf m) ≡ tableOf m))
       (λ ls. All HasLiteral (keep (map (termOf (tableOf m) e) ls)))
-      (λ ls q. clause-filled (tableOf m) e (m .n) ls (table-stable m fix r) (omega arith) (q .0 .0) (q .0 .1) (q .1)) (clausesOf c)
+      (λ ls k. clause-filled (tableOf m) e (m .n) ls (table-settled m q) (omega arith) (k .0 .0) (k .0 .1) (k .1)) (clausesOf c)
       (all-zip (λ ls. HasLiteral ls × All (λ l. variable l - 1 < length (tableOf m)) ls) (λ ls. clauseRule (m .n) ls (tableOf m) ≡ tableOf m) (clausesOf c) g k))))
 
   no-clauses : All HasLiteral (constraintClauses (m .n) (tableOf m) zeroConstraint)
@@ -171,7 +171,7 @@ module _ (m : Model) (r : T (inRange m)) (fix : T (isFixpoint m)) (z : Sized m) 
       all-imp (λ c. T (constraintInRange (m .s) c) × All (λ ls. clauseRule (m .n) ls (tableOf m) ≡ tableOf m) (clausesOf c))
       (λ c. All HasLiteral (constraintClauses (m .n) (tableOf m) c)) (λ c h. constraint-filled c (good c (h .0)) (h .1)) (constraintsOf m)
       (all-zip (λ c. T (constraintInRange (m .s) c)) (λ c. All (λ ls. clauseRule (m .n) ls (tableOf m) ≡ tableOf m) (clausesOf c)) (constraintsOf m)
-      (every-all (constraintInRange (m .s)) (constraintsOf m) (in-range m r .constraints)) (clauses-keep m fix))
+      (every-all (constraintInRange (m .s)) (constraintsOf m) (in-range m (q .in-range) .constraints)) (clauses-keep m q))
 
   -- refusal 29 cannot occur after 22
   pub no-empty-clause : (b : ℕ) → T (not (hasEmptyClause m b))
@@ -186,6 +186,6 @@ module _ (m : Model) (r : T (inRange m)) (fix : T (isFixpoint m)) (z : Sized m) 
       go : (x : Bool) → ltb (m .s) b ≡ x → T (not (x && any isEmpty (blockClauses m b)))
       go false e = tt
       go true e =
-          rw (constraint-block m z b (ltb-true (m .s) b e))
+          rw (constraint-block m (q .sized) b (ltb-true (m .s) b e))
           (none-empty (constraintClauses (m .n) (tableOf m) (getD (constraintsOf m) (b - m .s - 1) zeroConstraint))
           (all-getD (λ c. All HasLiteral (constraintClauses (m .n) (tableOf m) c)) zeroConstraint no-clauses (constraintsOf m) constraints-filled (b - m .s - 1)))

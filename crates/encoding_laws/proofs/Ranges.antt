@@ -17,19 +17,18 @@ use Rattle.model.specs.declared.Model.{Model}
 use Rattle.model.specs.Lists.{any, each, total, range}
 use Rattle.model.specs.Words.{bit, has}
 use Rattle.model.specs.Clauses.{clausesOf}
-use Rattle.model.specs.Model.{zeroGroup, groupAt, tableOf, constraintsOf, inRange}
-use Rattle.model.specs.Propagate.{isFixpoint}
+use Rattle.model.specs.Model.{zeroGroup, groupAt, tableOf, constraintsOf}
+use Rattle.model.specs.Propagate.{Settled}
 use Rattle.model.specs.Totalizer.{opposite, oppositeTerm, holds, literals, keep, Output, left, right, own, formed, output, signed, putIn, nodeClauses, Shape, leaf, node, shape, leaves, outputs, rootOutput, treeClauses, unit, unitClauses, totalizerClauses, treeOutputCount}
-use Rattle.model.specs.Cnf.{openOf, openCount, atLeast, atMost, counted, outputsOf, firstVariable, firstOutput, variableOf, variableCount, groupClauses, membership, termOf, clausesAt, constraintClauses, clauses}
+use Rattle.model.specs.Cnf.{openOf, openCount, atLeast, atMost, counted, outputsOf, firstVariable, firstOutput, variableOf, tableVariables, variableCount, groupClauses, membership, termOf, clausesAt, constraintClauses, clauses}
 use Rattle.model.specs.Assignment.{variable}
 use Rattle.model.proofs.Words.{has-one, has-none, has-zero, bit-less, size-below-lt}
 use Rattle.model.proofs.Lists.{total-place, All, all-both, all-each, all-map-iff, all-of, range-all, all-place}
-use Rattle.encoding_laws.proofs.Sized.{Sized}
 use Rattle.encoding_laws.proofs.Node.{output-in, output-out}
 use Rattle.encoding_laws.proofs.Totalizer.{leaves-shape}
 use Rattle.encoding_laws.proofs.Counts.{outputs-count}
 use Rattle.encoding_laws.proofs.Groups.{table-length, clauses-parts}
-use Rattle.encoding_laws.proofs.Fixpoint.{Stable, table-stable}
+use Rattle.encoding_laws.proofs.Fixpoint.{SettledAmong, table-settled}
 use Rattle.encoding_laws.proofs.Whole.{OpenLimits, limits-of, counted-pos}
 
 -- ---- variables lo ≤ v < hi
@@ -134,16 +133,16 @@ module _ (lo hi : ℕ) where
 
 -- ---- groups and constraints
 
-module _ (n : ℕ) (t : List Group) (s : All (Stable n) t) where
+module _ (n : ℕ) (t : List Group) (s : All (SettledAmong n) t) where
   hi : ℕ
-  hi = suc (variableCount t)
+  hi = suc (tableVariables t)
 
   first-variable : (g : ℕ) → g - 1 < length t → firstVariable t g + openCount (groupAt t g) ≤ 1 + total openCount t
   unfolding firstVariable groupAt
   first-variable g h = omega (arith, total-place openCount t (g - 1) zeroGroup h)
 
   first-output : (g : ℕ) → g - 1 < length t → firstOutput t g + outputsOf (groupAt t g) ≤ hi
-  unfolding firstOutput groupAt hi variableCount
+  unfolding firstOutput groupAt hi tableVariables
   first-output g h = omega (arith, total-place outputsOf t (g - 1) zeroGroup h)
 
   group-in : (g : ℕ) → g - 1 < length t → InAll 1 hi (groupClauses t g)
@@ -154,14 +153,14 @@ module _ (n : ℕ) (t : List Group) (s : All (Stable n) t) where
       r = groupAt t g
 
       l : OpenLimits r
-      l = limits-of n r (unfold groupAt in all-place (Stable n) zeroGroup t s (g - 1) h)
+      l = limits-of r (unfold groupAt in all-place (SettledAmong n) zeroGroup t s (g - 1) h .group)
 
       go : (b : Bool) → counted r ≡ b → InAll 1 hi (cond b (totalizerClauses (openCount r) (firstVariable t g) (firstOutput t g) (atLeast r) (atMost r)) [])
       go true c =
           totalizer-in 1 hi (openCount r) (firstVariable t g) (firstOutput t g) (atLeast r) (atMost r)
           (counted-pos (atLeast r) (atMost r) (openCount r) (l .low-open) (subst T (sym c) tt)) (l .low-open)
           (unfold firstVariable in omega arith) (unfold firstOutput in omega arith)
-          (let k = first-variable g h in unfold hi variableCount in omega arith)
+          (let k = first-variable g h in unfold hi tableVariables in omega arith)
           (let k = first-output g h in let e : outputsOf r ≡ treeOutputCount (openCount r) = unfold outputsOf in rw c in omega arith)
       go false c = tt
 
@@ -180,7 +179,7 @@ module _ (n : ℕ) (t : List Group) (s : All (Stable n) t) where
           let b : bit e (openOf r) ≡ 1 = unfold openOf in omega (arith, bit-less e (r .possible) (r .fixed), has-none (r .fixed) e p, has-one (r .possible) e q) in
           let k = size-below-lt e (openOf r) b in
           let f = first-variable g h in
-          unfold variableOf openCount firstVariable hi variableCount in (omega arith, omega arith)
+          unfold variableOf openCount firstVariable hi tableVariables in (omega arith, omega arith)
       go false p true q (no h) =
           let z : r ≡ zeroGroup = unfold groupAt in List·getD-eq-default t zeroGroup {n = g - 1} (omega arith) in
           let f : has (r .possible) e ≡ false = rw z (unfold zeroGroup in has-zero e) in
@@ -204,26 +203,26 @@ module _ (n : ℕ) (t : List Group) (s : All (Stable n) t) where
 -- ---- the whole
 
 abbrev pub VariablesIn : Model → List (List Literal) → Type 0
-VariablesIn m cs = InAll 1 (suc (variableCount (tableOf m))) cs
+VariablesIn m cs = InAll 1 (suc (variableCount m)) cs
 
-module _ (m : Model) (r : T (inRange m)) (fix : T (isFixpoint m)) (z : Sized m) where
+module _ (m : Model) (q : Settled m) where
   pub group-variables : (g : ℕ) → 1 ≤ g → g ≤ m .s → VariablesIn m (groupClauses (tableOf m) g)
-  unfolding hi
-  group-variables g h k = group-in (m .n) (tableOf m) (table-stable m fix r) g (omega (arith, table-length m z))
+  unfolding hi variableCount
+  group-variables g h k = group-in (m .n) (tableOf m) (table-settled m q) g (omega (arith, table-length m (q .sized)))
 
   pub constraint-variables : (c : Constraint) → VariablesIn m (constraintClauses (m .n) (tableOf m) c)
-  unfolding hi
-  constraint-variables c = constraint-in (m .n) (tableOf m) (table-stable m fix r) (m .n) c
+  unfolding hi variableCount
+  constraint-variables c = constraint-in (m .n) (tableOf m) (table-settled m q) (m .n) c
 
   -- every literal's variable is one of 1..V
   pub variables-in : VariablesIn m (clauses m)
   variables-in =
       let gs = each (groupClauses (tableOf m)) (range 1 (m .s)) in
       let cs = each (constraintClauses (m .n) (tableOf m)) (constraintsOf m) in
-      subst (VariablesIn m) (sym (clauses-parts m z))
-      (all-both (All (In 1 (suc (variableCount (tableOf m))))) gs cs .1 (
-        all-each (All (In 1 (suc (variableCount (tableOf m))))) (groupClauses (tableOf m)) (range 1 (m .s))
+      subst (VariablesIn m) (sym (clauses-parts m (q .sized)))
+      (all-both (All (In 1 (suc (variableCount m)))) gs cs .1 (
+        all-each (All (In 1 (suc (variableCount m)))) (groupClauses (tableOf m)) (range 1 (m .s))
             (range-all (λ g. VariablesIn m (groupClauses (tableOf m) g)) 1 (m .s) (λ g h k. group-variables g h (omega arith))),
-        all-each (All (In 1 (suc (variableCount (tableOf m))))) (constraintClauses (m .n) (tableOf m)) (constraintsOf m)
+        all-each (All (In 1 (suc (variableCount m)))) (constraintClauses (m .n) (tableOf m)) (constraintsOf m)
             (all-of (λ c. VariablesIn m (constraintClauses (m .n) (tableOf m) c)) constraint-variables (constraintsOf m)),
       ))

@@ -13,22 +13,20 @@ use Rattle.model.specs.declared.Literal.{Literal}
 use Rattle.model.specs.declared.Literal.the-variants.{Pos, Neg}
 use Rattle.model.specs.declared.Model.{Model}
 use Rattle.model.specs.Lists.{those, each, range, isEmpty}
-use Rattle.model.specs.Model.{tableOf, inRange}
-use Rattle.model.specs.Propagate.{isFixpoint}
-use Rattle.model.specs.Cnf.{variableCount, clauseCount, blockClauses, clauses}
+use Rattle.model.specs.Propagate.{Settled}
+use Rattle.model.specs.Cnf.{variableCount, blockCount, clauseCount, blockClauses, clauses}
 use Rattle.model.specs.Sheet.{onFirst, linesOf}
 use Rattle.model.specs.Text.{decimal, literalText, clauseText, headerText, blockText, listing}
 use Rattle.model.specs.Dimacs.{isBlank, pieces, tokens, natural, literal, end, signedNumber, number, more, clausesFrom, isComment, withHeader, formulaOf, readDimacs}
 use Rattle.model.specs.Assignment.{variable}
 use Rattle.model.proofs.Lists.{each-each, each-range-ext, those-all, All, all-both, all-imp, all-map-iff, all-of, all-each}
-use Rattle.encoding_laws.proofs.Sized.{Sized}
 use Rattle.encoding_laws.proofs.Decimal.{decimal-digits, decimal-some, decimal-natural}
 use Rattle.encoding_laws.proofs.Ranges.{In, variables-in}
 
 -- ---- the listing as a header line and a line for each clause
 
 unfoldable pub headerLine : Model → List ℕ
-headerLine m = (112 ∷ 32 ∷ 99 ∷ 110 ∷ 102 ∷ 32 ∷ []) ++ decimal (variableCount (tableOf m)) ++ (32 ∷ []) ++ decimal (clauseCount m)
+headerLine m = (112 ∷ 32 ∷ 99 ∷ 110 ∷ 102 ∷ 32 ∷ []) ++ decimal (variableCount m) ++ (32 ∷ []) ++ decimal (clauseCount m)
 
 -- a literal without its space, and a clause without its byte 10
 unfoldable pub literalWord : Literal → List ℕ
@@ -54,11 +52,11 @@ literal-word (Neg v) = refl
 pub listing-parts : (m : Model) → listing m ≡ headerText m ++ each clauseText (clauses m)
 unfolding listing blockText clauses
 listing-parts m =
-    ap (λ (k : ℕ). each (blockText m) (range 0 k)) (add-one (m .s + m .c))
+    ap (λ (k : ℕ). each (blockText m) (range 0 k)) (add-one (blockCount m))
     ∙ ap (λ (l : List ℕ). headerText m ++ l)
-    (each-range-ext (blockText m) (λ b. each clauseText (blockClauses m b)) 1 (m .s + m .c)
+    (each-range-ext (blockText m) (λ b. each clauseText (blockClauses m b)) 1 (blockCount m)
     (λ b l k. let e : eqb b 0 ≡ false = ne-eqb b 0 (λ z. omega arith) in rw e)
-    ∙ sym (each-each clauseText (blockClauses m) (range 1 (m .s + m .c))))
+    ∙ sym (each-each clauseText (blockClauses m) (range 1 (blockCount m))))
 
 -- ---- bytes
 
@@ -100,12 +98,12 @@ unfolding headerLine
 header-printed m =
     let P : ℕ → Type 0 = λ b. 32 ≤ b in
     let d : (v : ℕ) → All P (decimal v) = λ v. all-imp Printed P (λ b h. h .0) (decimal v) (digits-printed v) in
-    let vs = decimal (variableCount (tableOf m)) in
+    let vs = decimal (variableCount m) in
     let ks = decimal (clauseCount m) in
     let h : List ℕ = 112 ∷ 32 ∷ 99 ∷ 110 ∷ 102 ∷ 32 ∷ [] in
     all-both P (h ++ vs ++ (32 ∷ [])) ks .1 (
       all-both P (h ++ vs) (32 ∷ []) .1 (
-        all-both P h vs .1 ((omega arith, (omega arith, (omega arith, (omega arith, (omega arith, (omega arith, tt)))))), d (variableCount (tableOf m))),
+        all-both P h vs .1 ((omega arith, (omega arith, (omega arith, (omega arith, (omega arith, (omega arith, tt)))))), d (variableCount m)),
         (omega arith, tt),
       ),
       d (clauseCount m),
@@ -186,17 +184,17 @@ clause-tokens c =
 
 -- block 0's line is the words p, cnf, V and C
 pub header-tokens : (m : Model)
-    → tokens (headerLine m) ≡ (112 ∷ []) ∷ (99 ∷ 110 ∷ 102 ∷ []) ∷ decimal (variableCount (tableOf m)) ∷ decimal (clauseCount m) ∷ []
+    → tokens (headerLine m) ≡ (112 ∷ []) ∷ (99 ∷ 110 ∷ 102 ∷ []) ∷ decimal (variableCount m) ∷ decimal (clauseCount m) ∷ []
 unfolding tokens headerLine isBlank
 header-tokens m =
-    let vs = decimal (variableCount (tableOf m)) in
+    let vs = decimal (variableCount m) in
     let ks = decimal (clauseCount m) in
     let e : pieces (vs ++ (32 ∷ []) ++ ks) ≡ vs ∷ ks ∷ [] =
-    ap pieces (append-assoc vs (32 ∷ []) ks) ∙ piece-cut vs ks (digits-solid (variableCount (tableOf m)))
+    ap pieces (append-assoc vs (32 ∷ []) ks) ∙ piece-cut vs ks (digits-solid (variableCount m))
     ∙ ap {B = List (List ℕ)} (λ ws. vs ∷ ws) (piece-last ks (decimal-some (clauseCount m)) (digits-solid (clauseCount m))) in
     rw e
     (those-all (λ w. not (isEmpty w)) ((112 ∷ []) ∷ (99 ∷ 110 ∷ 102 ∷ []) ∷ vs ∷ ks ∷ [])
-    (tt, (tt, (filled vs (decimal-some (variableCount (tableOf m))), (filled ks (decimal-some (clauseCount m)), tt)))))
+    (tt, (tt, (filled vs (decimal-some (variableCount m)), (filled ks (decimal-some (clauseCount m)), tt)))))
 
 -- ---- numbers
 
@@ -244,24 +242,24 @@ clauses-read (c ∷ cs) h =
 -- what a text says with the header of m and some clauses
 pub text-reads : (m : Model) (cs : List (List Literal)) → All (All (λ l. 1 ≤ variable l)) cs
     → readDimacs (headerText m ++ each clauseText cs)
-    ≡ some (record { variables = variableCount (tableOf m); clauseCount = clauseCount m; clauses = cs })
+    ≡ some (record { variables = variableCount m; clauseCount = clauseCount m; clauses = cs })
 unfolding readDimacs withHeader
 text-reads m cs h =
     ap (λ (ls : List (List ℕ)). formulaOf (those (λ l. not (isComment l)) ls)) (text-lines m cs)
     ∙ ap formulaOf (no-comments m cs)
     ∙ ap (λ (ws : List (List ℕ)). withHeader ws (clausesFrom [] (each tokens (map clauseLine cs)))) (header-tokens m)
-    ∙ rw (decimal-natural (variableCount (tableOf m)), decimal-natural (clauseCount m), clauses-read cs h)
+    ∙ rw (decimal-natural (variableCount m), decimal-natural (clauseCount m), clauses-read cs h)
 
 -- block 0 alone reads as V and C
-pub header-reads : (m : Model) → readDimacs (blockText m 0) ≡ some (record { variables = variableCount (tableOf m); clauseCount = clauseCount m; clauses = [] })
+pub header-reads : (m : Model) → readDimacs (blockText m 0) ≡ some (record { variables = variableCount m; clauseCount = clauseCount m; clauses = [] })
 unfolding blockText
 header-reads m = ap readDimacs (sym (append-nil (headerText m))) ∙ text-reads m [] tt
 
 -- the listing reads as V, C and the clauses
-pub listing-reads : (m : Model) → T (inRange m) → T (isFixpoint m) → Sized m
-    → readDimacs (listing m) ≡ some (record { variables = variableCount (tableOf m); clauseCount = clauseCount m; clauses = clauses m })
-listing-reads m r fix z =
+pub listing-reads : (m : Model) → Settled m
+    → readDimacs (listing m) ≡ some (record { variables = variableCount m; clauseCount = clauseCount m; clauses = clauses m })
+listing-reads m q =
     ap readDimacs (listing-parts m)
     ∙ text-reads m (clauses m)
-    (all-imp (All (In 1 (suc (variableCount (tableOf m))))) (All (λ l. 1 ≤ variable l))
-    (λ c h. all-imp (In 1 (suc (variableCount (tableOf m)))) (λ l. 1 ≤ variable l) (λ l k. k .0) c h) (clauses m) (variables-in m r fix z))
+    (all-imp (All (In 1 (suc (variableCount m)))) (All (λ l. 1 ≤ variable l))
+    (λ c h. all-imp (In 1 (suc (variableCount m))) (λ l. 1 ≤ variable l) (λ l k. k .0) c h) (clauses m) (variables-in m q))

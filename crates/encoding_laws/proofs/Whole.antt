@@ -9,8 +9,8 @@ use native.Mathlib.Decide.{decLt}
 use lib.Dec.{T, leb, ltb, eqb, leb→le, le→leb, ltb→lt, lt→ltb, nltb→le, eqb→eq, eqb-refl}
 use lib.Arith.{le→nltb}
 use lib.Pow.{pow-pos}
-use lib.ListN.{length, getD, take, drop, length-append, length-drop, length-map, take-append-drop}
-use lib.Seq.{drop-cons, take-all, take-at, drop-at, getD-take}
+use lib.ListN.{length, getD, take, drop, length-append, length-drop, take-append-drop}
+use lib.Seq.{drop-cons, take-all, take-at, drop-at}
 use Rattle.model.specs.declared.Literal.{Literal}
 use Rattle.model.specs.declared.Literal.the-variants.{Pos, Neg}
 use Rattle.model.specs.declared.Term.the-variants.{Holds, Fails, Open}
@@ -20,30 +20,31 @@ use Rattle.model.specs.declared.Model.{Model}
 use Rattle.model.specs.Lists.{every, any, pairwise, each, total, range, between}
 use Rattle.model.specs.Limits.{limits}
 use Rattle.model.specs.Words.{size, inside, has}
-use Rattle.model.specs.Clauses.{memberCount, memberClauses, ofGroup, groupsOf, clausesOf}
-use Rattle.model.specs.Model.{groupAt, tableOf, constraintsOf, constraintInRange, inRange}
-use Rattle.model.specs.Propagate.{isFixpoint}
+use Rattle.model.specs.Clauses.{byEntrant, memberCount, memberClauses, clausesOf}
+use Rattle.model.specs.Model.{groupAt, tableOf, constraintsOf, membersSized, codeInRange, constraintInRange}
+use Rattle.model.specs.Propagate.{Settled}
 use Rattle.model.specs.Totalizer.{shape, totalizerClauses, treeOutputCount}
-use Rattle.model.specs.Cnf.{openOf, openCount, atLeast, atMost, counted, outputsOf, firstVariable, firstOutput, variableOf, variableCount, groupClauses, membership, termOf, clausesAt, constraintClauses, clauses}
+use Rattle.model.specs.Cnf.{openOf, openCount, atLeast, atMost, counted, outputsOf, firstVariable, firstOutput, variableOf, tableVariables, variableCount, groupClauses, membership, termOf, clausesAt, constraintClauses, clauses}
 use Rattle.model.specs.Solution.{allowed, setOf, constraintTrue, isSolution}
 use Rattle.model.specs.Close.{truth, termTrue, clauseTrue, satisfying, groupBy, groupsBy}
 use Rattle.model.specs.Demand.{isAssignment, isSatisfying}
 use Rattle.model.proofs.Words.{Sub, sub-inside, inside-sub, sub-less, sub-le, size-less, bit-less, bit-le, has-less, word-ext, where-lt, has-where}
-use Rattle.model.proofs.Lists.{T-true, T-false, and-left, and-right, and-both, every-each, every-map, every-ext, any-map, any-ext, every-range-ext, every-all-ext, values-make, values-append, values-length, append-iff, All, all-imp, all-zip, all-map-iff, all-of, all-getD, every-all, getD-map-in, range-getD, range-length}
-use Rattle.encoding_laws.proofs.Sized.{Sized, membersSized}
+use Rattle.model.proofs.Lists.{T-true, T-false, and-left, and-right, and-both, every-each, every-map, every-ext, any-ext, every-range-ext, every-all-ext, values-make, values-append, values-length, append-iff, All, all-imp, all-zip, all-map-iff, all-of, all-getD, every-all, getD-map-in, range-getD, range-length}
 use Rattle.encoding_laws.proofs.Truth.{allTrue, allTrue-append, T-and, opposite-true, kept-true}
 use Rattle.encoding_laws.proofs.Tree.{count, fill, length-fill, valuesFrom, count-le}
 use Rattle.encoding_laws.proofs.Totalizer.{totalizer-iff, leaves-shape}
 use Rattle.encoding_laws.proofs.Counts.{outputs-count}
 use Rattle.encoding_laws.proofs.Groups.{table-length, clauses-parts, overGroups, numbered}
-use Rattle.encoding_laws.proofs.Fixpoint.{Stable, in-range, table-stable}
-use Rattle.encoding_laws.proofs.Members.{code-six, groups-length, member-group}
-use Rattle.encoding_laws.proofs.Meaning.{memberTrue, meaningAt, clauses-meaning, meaning-ext, meaning-words}
+use Rattle.propagation_laws.proofs.GroupRule.{SettledGroup}
+use Rattle.propagation_laws.proofs.Ranges.{in-range, constraint-code, member-group}
+use Rattle.propagation_laws.proofs.Meaning.{literalFor, clausesFor, clausesHold, over-members, same-clauses, meaning-below}
+use Rattle.encoding_laws.proofs.Fixpoint.{SettledAmong, table-settled}
+use Rattle.model.proofs.Codes.{by-entrant}
 use Rattle.encoding_laws.proofs.Row.{inRow, rowWord, openValues, Apart, Holding, row-size, row-values, row-of, row-holding, openValues-length}
 
 -- ---- one group
 
--- L and U of a stable group
+-- L and U of a group at rest
 pub record OpenLimits (r : Group) : Type 0 where
   pub low-open : atLeast r ≤ openCount r
   pub high-open : atMost r ≤ openCount r
@@ -51,16 +52,16 @@ pub record OpenLimits (r : Group) : Type 0 where
   pub low-is : atLeast r + size (r .fixed) ≡ r .low
   pub high-is : atMost r + size (r .fixed) ≡ r .high
 
-pub limits-of : (n : ℕ) (r : Group) → Stable n r → OpenLimits r
+pub limits-of : (r : Group) → SettledGroup r → OpenLimits r
 unfolding atLeast atMost openCount openOf
-limits-of n r s =
-    let e = size-less (r .possible) (r .fixed) (s .sub) in
+limits-of r s =
+    let e = size-less (r .possible) (r .fixed) (s .fits) in
     record {
-      low-open = omega (arith, s .low-fixed, s .order, s .high-possible);
-      high-open = omega (arith, s .low-fixed, s .order, s .high-possible);
+      low-open = omega (arith, s .least, s .order, s .most);
+      high-open = omega (arith, s .least, s .order, s .most);
       low-high = omega (arith, s .order);
-      low-is = omega (arith, s .low-fixed);
-      high-is = omega (arith, s .low-fixed, s .order);
+      low-is = omega (arith, s .least);
+      high-is = omega (arith, s .least, s .order);
     }
 
 pub counted-pos : (L U m : ℕ) → L ≤ m → T (ltb 0 L || ltb U m) → 1 ≤ m
@@ -77,16 +78,16 @@ uncounted L U m t = go (decLt 0 L)
     go (yes l) = absurd (rw (T-true (ltb 0 L) (lt→ltb 0 L l)) at t)
     go (no l) = (omega arith, nltb→le U m (rw (T-false (ltb 0 L) (le→nltb 0 L (omega arith))) at t))
 
-pub open-apart : (n : ℕ) (r : Group) → Stable n r → Apart (r .fixed) (openOf r)
+pub open-apart : (r : Group) → SettledGroup r → Apart (r .fixed) (openOf r)
 unfolding openOf
-open-apart n r s = record { bits = λ e. omega (arith, bit-less e (r .possible) (r .fixed), s .sub .at e, bit-le e (r .possible)) }
+open-apart r s = record { bits = λ e. omega (arith, bit-less e (r .possible) (r .fixed), s .fits .at e, bit-le e (r .possible)) }
 
-pub open-lt : (n : ℕ) (r : Group) → Stable n r → openOf r < 2 ^ n
+pub open-lt : (n : ℕ) (r : Group) → SettledAmong n r → openOf r < 2 ^ n
 unfolding openOf
-open-lt n r s = let h = sub-le (sub-less (r .possible) (r .fixed)) in omega (arith, s .bound)
+open-lt n r s = let h = sub-le (sub-less (r .possible) (r .fixed)) in omega (arith, s .small)
 
-pub fixed-lt : (n : ℕ) (r : Group) → Stable n r → r .fixed < 2 ^ n
-fixed-lt n r s = let h = sub-le (s .sub) in omega (arith, s .bound)
+pub fixed-lt : (n : ℕ) (r : Group) → SettledAmong n r → r .fixed < 2 ^ n
+fixed-lt n r s = let h = sub-le (s .group .fits) in omega (arith, s .small)
 
 -- the values of a group's outputs
 unfoldable fillOf : Group → List Bool → List Bool
@@ -107,10 +108,10 @@ clausesFrom r v o = cond (counted r) (totalizerClauses (openCount r) v o (atLeas
 unfoldable wordFrom : ℕ → List Bool → Group → ℕ → ℕ → ℕ
 wordFrom n a r v o = rowWord (truth a) n (r .fixed) (openOf r) v
 
-module _ (n : ℕ) (a : List Bool) (r : Group) (v o : ℕ) (s : Stable n r) where
+module _ (n : ℕ) (a : List Bool) (r : Group) (v o : ℕ) (s : SettledAmong n r) where
   word-size : size (wordFrom n a r v o) ≡ size (r .fixed) + count (valuesFrom a v (openCount r))
   unfolding wordFrom openCount
-  word-size = row-size (truth a) n (r .fixed) (openOf r) v (fixed-lt n r s) (open-lt n r s) (open-apart n r s)
+  word-size = row-size (truth a) n (r .fixed) (openOf r) v (fixed-lt n r s) (open-lt n r s) (open-apart r (s .group))
 
   InLimits : Type 0
   InLimits = (r .low ≤ size (wordFrom n a r v o)) × (size (wordFrom n a r v o) ≤ r .high)
@@ -126,7 +127,7 @@ module _ (n : ℕ) (a : List Bool) (r : Group) (v o : ℕ) (s : Stable n r) wher
       x = count (valuesFrom a v m)
 
       l : OpenLimits r
-      l = limits-of n r s
+      l = limits-of r (s .group)
 
       hx : x ≤ m
       hx = rw (values-length (truth a) v m) at (count-le (valuesFrom a v m))
@@ -158,7 +159,7 @@ module _ (n : ℕ) (a : List Bool) (r : Group) (v o : ℕ) (s : Stable n r) wher
       let h : Holding (r .fixed) (openOf r) w = row-holding (truth a) n (r .fixed) (openOf r) v (fixed-lt n r s) in
       let i = inside (r .fixed) w && inside w (r .possible) in
       let fw : Sub (r .fixed) w = record { at = λ e. h .low e } in
-      let wp : Sub w (r .possible) = record { at = λ e. omega (arith, h .high e, bit-less e (r .possible) (r .fixed), s .sub .at e) } in (
+      let wp : Sub w (r .possible) = record { at = λ e. omega (arith, h .high e, bit-less e (r .possible) (r .fixed), s .group .fits .at e) } in (
         λ t. let b = and-right i (between (r .low) (r .high) (size w)) t in (
           leb→le (r .low) (size w) (and-left (leb (r .low) (size w)) (leb (size w) (r .high)) b),
           leb→le (size w) (r .high) (and-right (leb (r .low) (size w)) (leb (size w) (r .high)) b),
@@ -169,7 +170,7 @@ module _ (n : ℕ) (a : List Bool) (r : Group) (v o : ℕ) (s : Stable n r) wher
       )
 
 -- an allowed word is between the fixed and the possible entrants
-allowed-holding : (n : ℕ) (r : Group) (w : ℕ) → Stable n r → T (allowed r w) → Holding (r .fixed) (openOf r) w × (w < 2 ^ n)
+allowed-holding : (n : ℕ) (r : Group) (w : ℕ) → SettledAmong n r → T (allowed r w) → Holding (r .fixed) (openOf r) w × (w < 2 ^ n)
 unfolding allowed openOf
 allowed-holding n r w s t =
     let i = inside (r .fixed) w && inside w (r .possible) in
@@ -179,9 +180,9 @@ allowed-holding n r w s t =
     let l = sub-le wp in (
       record {
         low = λ e. fw .at e;
-        high = λ e. omega (arith, wp .at e, bit-less e (r .possible) (r .fixed), s .sub .at e);
+        high = λ e. omega (arith, wp .at e, bit-less e (r .possible) (r .fixed), s .group .fits .at e);
       },
-      omega (arith, s .bound),
+      omega (arith, s .small),
     )
 
 -- a group's term for an entrant, by the group's words
@@ -221,7 +222,7 @@ valuesOf n [] d = []
 valuesOf n (r ∷ rs) [] = []
 valuesOf n (r ∷ rs) (w ∷ ws) = openValues n (openOf r) w ++ valuesOf n rs ws
 
-values-total : (n : ℕ) (t : List Group) (d : List ℕ) → All (Stable n) t → T (pairwise allowed t d) → length (valuesOf n t d) ≡ total openCount t
+values-total : (n : ℕ) (t : List Group) (d : List ℕ) → All (SettledAmong n) t → T (pairwise allowed t d) → length (valuesOf n t d) ≡ total openCount t
 unfolding openCount
 values-total n [] [] s h = refl
 values-total n [] (w ∷ ws) s h = absurd h
@@ -232,15 +233,15 @@ values-total n (r ∷ rs) (w ∷ ws) s h =
     (values-total n rs ws (s .1) (and-right (allowed r w) (pairwise allowed rs ws) h))
 
 module _ (n : ℕ) (a : List Bool) where
-  words-values : (t : List Group) (v o : ℕ) → All (Stable n) t → valuesOf n t (overGroups (wordFrom n a) t v o) ≡ valuesFrom a v (total openCount t)
+  words-values : (t : List Group) (v o : ℕ) → All (SettledAmong n) t → valuesOf n t (overGroups (wordFrom n a) t v o) ≡ valuesFrom a v (total openCount t)
   unfolding wordFrom openCount
   words-values [] v o s = refl
   words-values (r ∷ rs) v o s =
-      ap₂ (λ (x y : List Bool). x ++ y) (row-values (truth a) n (r .fixed) (openOf r) v (open-lt n r (s .0)) (open-apart n r (s .0)))
+      ap₂ (λ (x y : List Bool). x ++ y) (row-values (truth a) n (r .fixed) (openOf r) v (open-lt n r (s .0)) (open-apart r (s .0 .group)))
       (words-values rs (v + openCount r) (o + outputsOf r) (s .1))
       ∙ sym (values-append (truth a) v (openCount r) (total openCount rs))
 
-  words-of : (t : List Group) (d : List ℕ) (v o : ℕ) → All (Stable n) t → T (pairwise allowed t d)
+  words-of : (t : List Group) (d : List ℕ) (v o : ℕ) → All (SettledAmong n) t → T (pairwise allowed t d)
       → valuesFrom a v (total openCount t) ≡ valuesOf n t d → overGroups (wordFrom n a) t v o ≡ d
   unfolding wordFrom openCount
   words-of [] [] v o s h e = refl
@@ -254,10 +255,10 @@ module _ (n : ℕ) (a : List Bool) where
       (values-length (truth a) v k ∙ sym (openValues-length n (openOf r) w (open-lt n r (s .0)))) .0
       (sym (values-append (truth a) v k (total openCount rs)) ∙ e) in
       ap₂ (λ (x : ℕ) (xs : List ℕ). x ∷ xs)
-      (row-of (truth a) n (r .fixed) (openOf r) v w (fixed-lt n r (s .0)) (open-lt n r (s .0)) (q .1) (open-apart n r (s .0)) (q .0) (p .0))
+      (row-of (truth a) n (r .fixed) (openOf r) v w (fixed-lt n r (s .0)) (open-lt n r (s .0)) (q .1) (open-apart r (s .0 .group)) (q .0) (p .0))
       (words-of rs ws (v + k) (o + outputsOf r) (s .1) (and-right (allowed r w) (pairwise allowed rs ws) h) (p .1))
 
-  groups-iff : (t : List Group) (v o : ℕ) → All (Stable n) t
+  groups-iff : (t : List Group) (v o : ℕ) → All (SettledAmong n) t
       → T (every (allTrue a) (overGroups clausesFrom t v o))
       ↔ ((valuesFrom a o (total outputsOf t) ≡ fillAll t (valuesFrom a v (total openCount t))) × T (pairwise allowed t (overGroups (wordFrom n a) t v o)))
   groups-iff [] v o s = (λ t. (refl, tt), λ h. tt)
@@ -307,53 +308,57 @@ module _ (m : Model) (a : List Bool) where
       all-map-iff (λ w. w < 2 ^ m .n) (groupBy m a) (range 1 (m .s)) .1
       (all-of (λ g. groupBy m a g < 2 ^ m .n) (λ g. where-lt (λ e. termTrue a (membership (tableOf m) e g)) (m .n)) (range 1 (m .s)))
 
-  -- a constraint's clauses for one entrant
-  pub entrant-true : (c : Constraint) (e : ℕ) → T (between 1 6 (c .code))
-      → allTrue a (clausesAt (tableOf m) c e) ≡ meaningAt (c .code) (c .count) (λ i. termTrue a (membership (tableOf m) e (getD (c .groups) i 0)))
-  unfolding clausesAt clausesOf
-  entrant-true c e t =
-      let cs = memberClauses (c .code) (c .count) in
+  -- a constraint's clauses for one entrant, by the members' terms
+  pub entrant-true : (c : Constraint) (e : ℕ)
+      → allTrue a (clausesAt (tableOf m) c e)
+      ≡ clausesFor (λ i. termTrue a (membership (tableOf m) e (getD (c .groups) i 0))) (memberClauses (c .code) (c .count))
+  unfolding clausesAt clausesFor
+  entrant-true c e =
       kept-true a (termOf (tableOf m) e) (clausesOf c)
-      ∙ every-map (λ ls. any (λ l. termTrue a (termOf (tableOf m) e l)) ls) (map (ofGroup (c .groups))) cs
-      ∙ every-ext (λ ls. any (λ l. termTrue a (termOf (tableOf m) e l)) (map (ofGroup (c .groups)) ls)) (any (memberTrue b))
-      (λ ls. any-map (λ l. termTrue a (termOf (tableOf m) e l)) (ofGroup (c .groups)) ls
-      ∙ any-ext (λ l. termTrue a (termOf (tableOf m) e (ofGroup (c .groups) l))) (memberTrue b) one ls) cs
-      ∙ clauses-meaning b (c .code) (c .count) t
+      ∙ every-ext (any (λ l. termTrue a (termOf (tableOf m) e l))) (any (literalFor v))
+      (any-ext (λ l. termTrue a (termOf (tableOf m) e l)) (literalFor v) one) (clausesOf c)
+      ∙ over-members v c
     where
-      b : ℕ → Bool
-      b i = termTrue a (membership (tableOf m) e (getD (c .groups) i 0))
+      v : ℕ → Bool
+      v g = termTrue a (membership (tableOf m) e g)
 
-      one : (l : Literal) → termTrue a (termOf (tableOf m) e (ofGroup (c .groups) l)) ≡ memberTrue b l
-      one (Pos i) = unfold termOf ofGroup in refl
-      one (Neg i) = unfold termOf ofGroup in opposite-true a (membership (tableOf m) e (getD (c .groups) i 0))
+      one : (l : Literal) → termTrue a (termOf (tableOf m) e l) ≡ literalFor v l
+      one (Pos g) = unfold termOf literalFor in refl
+      one (Neg g) = unfold termOf literalFor in opposite-true a (membership (tableOf m) e g)
+
+  -- where the sets d have each group's terms for bits, for all entrants
+  pub constraint-entrants : (c : Constraint) (d : List ℕ) → T (byEntrant (c .code))
+      → ((i e : ℕ) → i < memberCount (c .code) (c .count) → e < m .n
+      → has (setOf d (getD (c .groups) i 0)) e ≡ termTrue a (membership (tableOf m) e (getD (c .groups) i 0)))
+      → allTrue a (constraintClauses (m .n) (tableOf m) c)
+      ≡ every (λ e. clausesFor (λ i. has (setOf d (getD (c .groups) i 0)) e) (memberClauses (c .code) (c .count))) (range 0 (m .n))
+  unfolding constraintClauses
+  constraint-entrants c d t bits =
+      every-each (clauseTrue a) (clausesAt (tableOf m) c) (range 0 (m .n))
+      ∙ every-range-ext (λ e. allTrue a (clausesAt (tableOf m) c e))
+      (λ e. clausesFor (λ i. has (setOf d (getD (c .groups) i 0)) e) (memberClauses (c .code) (c .count))) 0 (m .n)
+      (λ e _ h. entrant-true c e
+      ∙ same-clauses (λ i. termTrue a (membership (tableOf m) e (getD (c .groups) i 0))) (λ i. has (setOf d (getD (c .groups) i 0)) e) (c .code) (c .count) t
+      (λ i l. sym (bits i e l (omega arith))))
 
   constraint-true : (c : Constraint) → T (constraintInRange (m .s) c) → limits .members ≤ length (c .groups)
       → allTrue a (constraintClauses (m .n) (tableOf m) c) ≡ constraintTrue (groupsBy m a) c
-  unfolding constraintClauses constraintTrue groupsOf
+  unfolding clausesHold
   constraint-true c t wide =
-      every-each (clauseTrue a) (clausesAt (tableOf m) c) (range 0 (m .n))
-      ∙ every-range-ext (λ e. allTrue a (clausesAt (tableOf m) c e)) (λ e. meaningAt (c .code) (c .count) (λ i. has (getD ws i 0) e)) 0 (m .n)
-      (λ e _ h. entrant-true c e (code-six (m .s) c t)
-      ∙ meaning-ext (c .code) (c .count) (λ i. termTrue a (membership (tableOf m) e (getD (c .groups) i 0))) (λ i. has (getD ws i 0) e) (code-six (m .s) c t)
-      (λ i l. let g = member-group (m .s) c t wide i l in
-      sym (ap (λ (w : ℕ). has w e) (getD-map-in (setOf (groupsBy m a)) (groupsOf c) i 0 0 (omega (arith, groups-length (m .s) c t wide)))
-      ∙ group-has (getD (groupsOf c) i 0) e (g .0) (g .1) (omega arith)
-      ∙ ap (λ (g : ℕ). termTrue a (membership (tableOf m) e g)) (getD-take (memberCount (c .code) (c .count)) (c .groups) i 0 l))))
-      ∙ sym (meaning-words (m .n) ws small (pow-pos (m .n)) (c .code) (c .count) (code-six (m .s) c t) length-six)
+      constraint-entrants c d (by-entrant (c .code) (c .count) code)
+      (λ i e l h. let g = member-group (m .s) c t i l wide in group-has (getD (c .groups) i 0) e (g .0) (g .1) h)
+      ∙ sym (meaning-below c code wide (m .n) d small
+      ∙ every-ext (clausesHold d c) (λ e. clausesFor (λ i. has (setOf d (getD (c .groups) i 0)) e) (memberClauses (c .code) (c .count)))
+      (λ e. over-members (λ g. has (setOf d g) e) c) (range 0 (m .n)))
     where
-      ws : List ℕ
-      ws = map (setOf (groupsBy m a)) (groupsOf c)
+      d : List ℕ
+      d = groupsBy m a
 
-      small : All (λ w. w < 2 ^ m .n) ws
-      small =
-          all-map-iff (λ w. w < 2 ^ m .n) (setOf (groupsBy m a)) (groupsOf c) .1
-          (all-of (λ g. setOf (groupsBy m a) g < 2 ^ m .n)
-          (λ g. unfold setOf in all-getD (λ w. w < 2 ^ m .n) 0 (pow-pos (m .n)) (groupsBy m a) sets-small (g - 1)) (groupsOf c))
+      code : T (codeInRange (c .code) (c .count))
+      code = constraint-code (m .s) c t
 
-      length-six : c .code ≡ 6 → length ws ≡ suc (c .count)
-      length-six e =
-          length-map (groupsOf c) (setOf (groupsBy m a)) ∙ groups-length (m .s) c t wide ∙ ap (λ (k : ℕ). memberCount k (c .count)) e
-          ∙ unfold memberCount in native.Mathlib.Numerals.add-one (c .count)
+      small : (g : ℕ) → setOf d g < 2 ^ m .n
+      small g = unfold setOf in all-getD (λ w. w < 2 ^ m .n) 0 (pow-pos (m .n)) d sets-small (g - 1)
 
 -- ---- the whole
 
@@ -368,18 +373,18 @@ values-are : (xs : List Bool) (i n : ℕ) → i + n ≤ length xs → map (λ v.
 values-are xs i zero h = refl
 values-are xs i (suc n) h = rw (drop-cons xs i false (omega arith), values-are xs (suc i) n (omega arith))
 
-module _ (m : Model) (r : T (inRange m)) (fix : T (isFixpoint m)) (z : Sized m) (wide : T (membersSized m)) where
+module _ (m : Model) (q : Settled m) (wide : T (membersSized m)) where
   opens : ℕ
   opens = total openCount (tableOf m)
 
-  stables : All (Stable (m .n)) (tableOf m)
-  stables = table-stable m fix r
+  settled : All (SettledAmong (m .n)) (tableOf m)
+  settled = table-settled m q
 
   sets-are : (a : List Bool) → groupsBy m a ≡ overGroups (wordFrom (m .n) a) (tableOf m) 1 (1 + opens)
   unfolding groupsBy groupBy wordFrom rowWord opens
   sets-are a =
       let t = tableOf m in
-      ap (map (groupBy m a)) (ap (range 1) (sym (table-length m z)))
+      ap (map (groupBy m a)) (ap (range 1) (sym (table-length m (q .sized))))
       ∙ values-make (groupBy m a) (λ g. wordFrom (m .n) a (groupAt t g) (firstVariable t g) (firstOutput t g)) 1 1 (length t)
       (λ k h. let r = groupAt t (1 + k) in
       word-ext (λ e. termTrue a (membership t e (1 + k))) (inRow (truth a) (r .fixed) (openOf r) (firstVariable t (1 + k))) (m .n)
@@ -392,7 +397,7 @@ module _ (m : Model) (r : T (inRange m)) (fix : T (isFixpoint m)) (z : Sized m) 
       let e : allTrue a (each (groupClauses (tableOf m)) (range 1 (m .s))) ≡ every (allTrue a) (overGroups clausesFrom (tableOf m) 1 (1 + opens)) =
       every-each (clauseTrue a) (groupClauses (tableOf m)) (range 1 (m .s))
       ∙ sym (every-map (allTrue a) (groupClauses (tableOf m)) (range 1 (m .s)))
-      ∙ ap (λ (k : ℕ). every (allTrue a) (map (groupClauses (tableOf m)) (range 1 k))) (sym (table-length m z))
+      ∙ ap (λ (k : ℕ). every (allTrue a) (map (groupClauses (tableOf m)) (range 1 k))) (sym (table-length m (q .sized)))
       ∙ ap (every (allTrue a)) (numbered clausesFrom (tableOf m)) in
       (λ h. subst T e h, λ h. subst T (sym e) h)
 
@@ -404,15 +409,15 @@ module _ (m : Model) (r : T (inRange m)) (fix : T (isFixpoint m)) (z : Sized m) 
       (λ c. allTrue a (constraintClauses (m .n) (tableOf m) c) ≡ constraintTrue (groupsBy m a) c)
       (λ c h. constraint-true m a c (h .0) (leb→le (limits .members) (length (c .groups)) (h .1))) (constraintsOf m)
       (all-zip (λ c. T (constraintInRange (m .s) c)) (λ c. T (leb (limits .members) (length (c .groups)))) (constraintsOf m)
-      (every-all (constraintInRange (m .s)) (constraintsOf m) (in-range m r .constraints))
+      (every-all (constraintInRange (m .s)) (constraintsOf m) (in-range m (q .in-range) .constraints))
       (every-all (λ c. leb (limits .members) (length (c .groups))) (constraintsOf m) wide)))
 
-  open-part : (a : List Bool) → length a ≡ variableCount (tableOf m) → valuesFrom a 1 opens ≡ take opens a
-  unfolding opens variableCount
+  open-part : (a : List Bool) → length a ≡ variableCount m → valuesFrom a 1 opens ≡ take opens a
+  unfolding opens variableCount tableVariables
   open-part a h = values-are (false ∷ a) 1 opens (omega arith)
 
-  output-part : (a : List Bool) → length a ≡ variableCount (tableOf m) → valuesFrom a (1 + opens) (total outputsOf (tableOf m)) ≡ drop opens a
-  unfolding opens variableCount
+  output-part : (a : List Bool) → length a ≡ variableCount m → valuesFrom a (1 + opens) (total outputsOf (tableOf m)) ≡ drop opens a
+  unfolding opens variableCount tableVariables
   output-part a h =
       let e : 1 + opens ≡ suc opens = omega arith in
       rw e
@@ -420,44 +425,44 @@ module _ (m : Model) (r : T (inRange m)) (fix : T (isFixpoint m)) (z : Sized m) 
       ∙ take-all (total outputsOf (tableOf m)) (drop opens a) (rw length-drop (omega arith)))
 
   -- an assignment satisfies exactly when its outputs are filled in and its sets are a solution
-  main-iff : (a : List Bool) → length a ≡ variableCount (tableOf m)
+  main-iff : (a : List Bool) → length a ≡ variableCount m
       → T (satisfying m a) ↔ ((drop opens a ≡ fillAll (tableOf m) (take opens a)) × T (isSolution m (groupsBy m a)))
   unfolding satisfying isSolution opens
   main-iff a h =
       let gs = each (groupClauses (tableOf m)) (range 1 (m .s)) in
       let cs = each (constraintClauses (m .n) (tableOf m)) (constraintsOf m) in
       let w = allTrue-append a gs cs in
-      let e : allTrue a (clauses m) ≡ allTrue a (gs ++ cs) = ap (allTrue a) (clauses-parts m z) in
-      let g = groups-iff (m .n) a (tableOf m) 1 (1 + opens) stables in
+      let e : allTrue a (clauses m) ≡ allTrue a (gs ++ cs) = ap (allTrue a) (clauses-parts m (q .sized)) in
+      let g = groups-iff (m .n) a (tableOf m) 1 (1 + opens) settled in
       let k = constraints-are a in
       let p = output-part a h in
-      let q = ap (fillAll (tableOf m)) (open-part a h) in
+      let f = ap (fillAll (tableOf m)) (open-part a h) in
       let d : pairwise allowed (tableOf m) (groupsBy m a) ≡ pairwise allowed (tableOf m) (overGroups (wordFrom (m .n) a) (tableOf m) 1 (1 + opens)) =
       ap (pairwise allowed (tableOf m)) (sets-are a) in
       let b = T-and (pairwise allowed (tableOf m) (groupsBy m a)) (every (constraintTrue (groupsBy m a)) (constraintsOf m)) in (
         λ t. let y = w .0 (subst T e t) in
             let u = g .0 (clauses-are a .0 (y .0)) in
-            (sym p ∙ u .0 ∙ q, b .1 (subst T (sym d) (u .1), subst T k (y .1))),
+            (sym p ∙ u .0 ∙ f, b .1 (subst T (sym d) (u .1), subst T k (y .1))),
         λ x. let y = b .0 (x .1) in
-            subst T (sym e) (w .1 (clauses-are a .1 (g .1 (p ∙ x .0 ∙ sym q, subst T d (y .0))), subst T (sym k) (y .1))),
+            subst T (sym e) (w .1 (clauses-are a .1 (g .1 (p ∙ x .0 ∙ sym f, subst T d (y .0))), subst T (sym k) (y .1))),
       )
 
-  length-is : (a : List Bool) → T (isSatisfying m a) → length a ≡ variableCount (tableOf m)
+  length-is : (a : List Bool) → T (isSatisfying m a) → length a ≡ variableCount m
   unfolding isSatisfying isAssignment
-  length-is a t = eqb→eq (length a) (variableCount (tableOf m)) (and-left (eqb (length a) (variableCount (tableOf m))) (satisfying m a) t)
+  length-is a t = eqb→eq (length a) (variableCount m) (and-left (eqb (length a) (variableCount m)) (satisfying m a) t)
 
   parts : (a : List Bool) → T (isSatisfying m a) → (drop opens a ≡ fillAll (tableOf m) (take opens a)) × T (isSolution m (groupsBy m a))
   unfolding isSatisfying isAssignment
-  parts a t = main-iff a (length-is a t) .0 (and-right (eqb (length a) (variableCount (tableOf m))) (satisfying m a) t)
+  parts a t = main-iff a (length-is a t) .0 (and-right (eqb (length a) (variableCount m)) (satisfying m a) t)
 
   pub one-for-one : OneForOne m
-  unfolding opens isSatisfying isAssignment isSolution variableCount
+  unfolding opens isSatisfying isAssignment isSolution variableCount tableVariables
   one-for-one = record { sound = λ a h. parts a h .1; found = found′; alone = alone′ }
     where
       found′ : (d : List ℕ) → T (isSolution m d) → (a : List Bool) × T (isSatisfying m a) × (groupsBy m a ≡ d)
       found′ d hd = (
         a,
-        and-both (eqb (length a) (variableCount (tableOf m))) (satisfying m a) (subst (λ (k : ℕ). T (eqb (length a) k)) ha (eqb-refl (length a)))
+        and-both (eqb (length a) (variableCount m)) (satisfying m a) (subst (λ (k : ℕ). T (eqb (length a) k)) ha (eqb-refl (length a)))
             (main-iff a ha .1 (dr ∙ sym (ap (fillAll (tableOf m)) tk), subst (λ (x : List ℕ). T (isSolution m x)) (sym e) hd)),
         e,
       )
@@ -472,9 +477,9 @@ module _ (m : Model) (r : T (inRange m)) (fix : T (isFixpoint m)) (z : Sized m) 
           hp = and-left (pairwise allowed (tableOf m) d) (every (constraintTrue d) (constraintsOf m)) hd
 
           hx : length xs ≡ opens
-          hx = values-total (m .n) (tableOf m) d stables hp
+          hx = values-total (m .n) (tableOf m) d settled hp
 
-          ha : length a ≡ variableCount (tableOf m)
+          ha : length a ≡ variableCount m
           ha = length-append xs (fillAll (tableOf m) xs) ∙ ap₂ (λ (x y : ℕ). x + y) hx (length-fillAll (tableOf m) xs)
 
           tk : take opens a ≡ xs
@@ -484,14 +489,14 @@ module _ (m : Model) (r : T (inRange m)) (fix : T (isFixpoint m)) (z : Sized m) 
           dr = drop-at xs (fillAll (tableOf m) xs) opens hx
 
           e : groupsBy m a ≡ d
-          e = sets-are a ∙ words-of (m .n) a (tableOf m) d 1 (1 + opens) stables hp (open-part a ha ∙ tk)
+          e = sets-are a ∙ words-of (m .n) a (tableOf m) d 1 (1 + opens) settled hp (open-part a ha ∙ tk)
 
       alone′ : (a b : List Bool) → T (isSatisfying m a) → T (isSatisfying m b) → groupsBy m a ≡ groupsBy m b → a ≡ b
       alone′ a b h k e = sym (take-append-drop opens a) ∙ ap₂ (λ (x y : List Bool). x ++ y) tk dr ∙ take-append-drop opens b
         where
           opened : (a : List Bool) → T (isSatisfying m a) → valuesOf (m .n) (tableOf m) (groupsBy m a) ≡ take opens a
           opened a h =
-              ap (valuesOf (m .n) (tableOf m)) (sets-are a) ∙ words-values (m .n) a (tableOf m) 1 (1 + opens) stables ∙ open-part a (length-is a h)
+              ap (valuesOf (m .n) (tableOf m)) (sets-are a) ∙ words-values (m .n) a (tableOf m) 1 (1 + opens) settled ∙ open-part a (length-is a h)
 
           tk : take opens a ≡ take opens b
           tk = sym (opened a h) ∙ ap (valuesOf (m .n) (tableOf m)) e ∙ opened b k

@@ -20,7 +20,7 @@ use Rattle.model.specs.Propagate.{Outcome, contradiction, fixpoint, outcome, re
 use Rattle.model.specs.Text.{writtenBlock, blockBuffer}
 use Rattle.model.specs.Close.{closed}
 use Rattle.model.proofs.Lists.{true-T}
-use Rattle.encoding_laws.proofs.Fixpoint.{in-range}
+use Rattle.propagation_laws.proofs.Ranges.{in-range}
 use Rattle.exports.specs.Draw.{numbered, settledSheet, drawSettle, groupWords, laidIn, drawTable, sheetBlock, writtenNumber, drawBlock, drawBuffer, readingOf, closedSheet}
 
 -- ---- the reader's refusal comes first

@@ -1,15 +1,21 @@
--- The six codes one by one, and the number of a code's groups. Assumes nothing.
-use Prim.Native.Nat.{ℕ, zero, suc, _-_, _≤_}
+-- The codes whose clauses are entrant by entrant, one by one; the number of a code's groups, and the members of its clauses. Assumes nothing.
+use mathlib.Core.Path.{_≡_, refl}
+use Prim.Native.Nat.{ℕ, zero, suc, _+_, _-_, _≤_, _<_}
 use native.Mathlib.Omega.{arith}
 use mathlib.Core.Bool.{not, _||_}
-use lib.Dec.{T, leb, eqb, leb→le, lit≤}
-use Rattle.model.specs.Lists.{between}
+use mathlib.Core.List.{List, [], _∷_, _++_, map}
+use lib.Dec.{T, leb, eqb, leb→le}
+use lib.ListN.{length, length-append, length-map}
+use Rattle.model.specs.declared.Literal.{Literal}
+use Rattle.model.specs.declared.Literal.the-variants.{Pos, Neg}
+use Rattle.model.specs.Lists.{range, between, isEmpty}
 use Rattle.model.specs.Limits.{limits}
-use Rattle.model.specs.Clauses.{memberCount}
+use Rattle.model.specs.Clauses.{byEntrant, memberCount, shortClauses, unionClauses, memberClauses}
 use Rattle.model.specs.Model.{codeInRange}
-use Rattle.model.proofs.Lists.{and-left, and-right}
+use Rattle.model.specs.Assignment.{variable}
+use Rattle.model.proofs.Lists.{and-left, and-right, between-le, All, all-both, all-map-iff, all-imp, range-all, range-length}
 
-pub by-code : (P : ℕ → Type 0) → P 1 → P 2 → P 3 → P 4 → P 5 → P 6 → (code : ℕ) → T (between 1 6 code) → P code
+pub by-code : (P : ℕ → Type 0) → P 1 → P 2 → P 3 → P 4 → P 5 → P 6 → (code : ℕ) → T (byEntrant code) → P code
 by-code P a b c d e f zero t = absurd t
 by-code P a b c d e f (suc zero) t = a
 by-code P a b c d e f (suc (suc zero)) t = b
@@ -21,13 +27,84 @@ by-code P a b c d e f (suc (suc (suc (suc (suc (suc (suc m))))))) t =
     let code = suc (suc (suc (suc (suc (suc (suc m)))))) in
     absurd (let h = leb→le code 6 (and-right (leb 1 code) (leb code 6) t) in omega arith)
 
--- at most 17
-pub member-bound : (code k : ℕ) → T (codeInRange code k) → memberCount code k ≤ limits .members
-unfolding codeInRange memberCount
-member-bound code k r =
-    let a = between 1 6 code in
-    let b = not (eqb code 6) || between 2 (limits .members - 1) k in
-    by-code (λ code. T (not (eqb code 6) || between 2 (limits .members - 1) k) → memberCount code k ≤ limits .members)
-    (λ t. lit≤ tt) (λ t. lit≤ tt) (λ t. lit≤ tt) (λ t. lit≤ tt) (λ t. lit≤ tt)
-    (λ t. let h = leb→le k 16 (and-right (leb 2 k) (leb k 16) t) in omega arith)
-    code (and-left a b r) (and-right a b r)
+-- ---- a code and its count in range
+
+module _ (code k : ℕ) (r : T (codeInRange code k)) where
+  pub by-entrant : T (byEntrant code)
+  unfolding codeInRange
+  by-entrant = and-left (byEntrant code) (not (eqb code 6) || between 2 (limits .members - 1) k) r
+
+  -- "a count k (2 to 16)" where the code is 6
+  pub count-in : code ≡ 6 → k ≤ limits .members - 1
+  unfolding codeInRange
+  count-in e =
+      let h = and-right (byEntrant code) (not (eqb code 6) || between 2 (limits .members - 1) k) r in
+      between-le 2 (limits .members - 1) k (rw e at h) .1
+
+  -- at most as many groups as a constraint may have
+  pub member-bound : memberCount code k ≤ limits .members
+  unfolding memberCount
+  member-bound =
+      by-code (λ code. (code ≡ 6 → k ≤ limits .members - 1) → memberCount code k ≤ limits .members)
+      (λ h. omega arith) (λ h. omega arith) (λ h. omega arith) (λ h. omega arith) (λ h. omega arith) (λ h. let l = h refl in omega arith)
+      code by-entrant count-in
+
+  -- and as many clauses
+  pub clause-bound : length (memberClauses code k) ≤ limits .members
+  unfolding memberClauses shortClauses unionClauses
+  clause-bound =
+      by-code (λ code. (code ≡ 6 → k ≤ limits .members - 1) → length (memberClauses code k) ≤ limits .members)
+      (λ h. omega arith) (λ h. omega arith) (λ h. omega arith) (λ h. omega arith) (λ h. omega arith)
+      (λ h. let l = h refl in omega (arith, length-map {B = List Literal} (range 1 k) (λ i. Neg i ∷ Pos 0 ∷ []), range-length 1 k))
+      code by-entrant count-in
+
+  -- each with no more literals
+  pub literal-bound : All (λ ls. length ls ≤ limits .members) (memberClauses code k)
+  unfolding memberClauses shortClauses unionClauses
+  literal-bound =
+      by-code (λ code. (code ≡ 6 → k ≤ limits .members - 1) → All (λ ls. length ls ≤ limits .members) (memberClauses code k))
+      (λ h. (omega arith, (omega arith, tt)))
+      (λ h. (omega arith, tt))
+      (λ h. (omega arith, (omega arith, (omega arith, tt))))
+      (λ h. (omega arith, (omega arith, (omega arith, tt))))
+      (λ h. (omega arith, (omega arith, (omega arith, tt)))) (λ h. let l = h refl in (
+        omega (arith, length-append (map Pos (range 1 k)) (Neg 0 ∷ []), length-map (range 1 k) Pos, range-length 1 k),
+        all-map-iff (λ ls. length ls ≤ limits .members) (λ i. Neg i ∷ Pos 0 ∷ []) (range 1 k) .1
+            (range-all (λ i. 2 ≤ limits .members) 1 k (λ j _ _. omega arith)),
+      ))
+      code by-entrant count-in
+
+-- ---- the members that a clause speaks of
+
+-- a clause over members 0 .. r - 1, at least one
+abbrev pub Clear : ℕ → List Literal → Type 0
+Clear r ls = T (not (isEmpty ls)) × All (λ l. variable l < r) ls
+
+pub members-clear : (code k : ℕ) → T (byEntrant code) → All (Clear (memberCount code k)) (memberClauses code k)
+unfolding memberCount memberClauses shortClauses unionClauses
+members-clear code k t =
+    by-code (λ code. All (Clear (memberCount code k)) (memberClauses code k))
+    ((tt, (omega arith, (omega arith, tt))), ((tt, (omega arith, (omega arith, tt))), tt))
+    ((tt, (omega arith, (omega arith, tt))), tt)
+    ((tt, (omega arith, (omega arith, (omega arith, tt)))), ((tt, (omega arith, (omega arith, tt))), ((tt, (omega arith, (omega arith, tt))), tt)))
+    ((tt, (omega arith, (omega arith, (omega arith, tt)))), ((tt, (omega arith, (omega arith, tt))), ((tt, (omega arith, (omega arith, tt))), tt)))
+    ((tt, (omega arith, (omega arith, (omega arith, tt)))), ((tt, (omega arith, (omega arith, tt))), ((tt, (omega arith, (omega arith, tt))), tt))) (
+      (
+        not-empty (map Pos (range 1 k)) (Neg 0),
+        all-both (λ l. variable l < k + 1) (map Pos (range 1 k)) (Neg 0 ∷ []) .1 (
+          all-map-iff (λ l. variable l < k + 1) Pos (range 1 k) .1 (range-all (λ i. i < k + 1) 1 k (λ j l h. omega arith)),
+          (omega arith, tt),
+        ),
+      ),
+      all-map-iff (Clear (k + 1)) (λ i. Neg i ∷ Pos 0 ∷ []) (range 1 k) .1
+          (range-all (λ i. Clear (k + 1) (Neg i ∷ Pos 0 ∷ [])) 1 k (λ j l h. (tt, (omega arith, (omega arith, tt))))),
+    )
+    code t
+  where
+    not-empty : (ls : List Literal) (l : Literal) → T (not (isEmpty (ls ++ (l ∷ []))))
+    not-empty [] l = tt
+    not-empty (x ∷ ls) l = tt
+
+pub members-below : (code k : ℕ) → T (byEntrant code) → All (All (λ l. variable l < memberCount code k)) (memberClauses code k)
+members-below code k t =
+    all-imp (Clear (memberCount code k)) (All (λ l. variable l < memberCount code k)) (λ ls h. h .1) (memberClauses code k) (members-clear code k t)

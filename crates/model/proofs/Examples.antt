@@ -3,23 +3,22 @@
 use Prim.Native.Nat.{ℕ, _-_}
 use Prim.Native.Char.{code}
 use Prim.Native.String.{String, [] as ε, _∷_ as _◁_}
-use mathlib.Core.Bool.{Bool, true, false, not, _&&_}
+use mathlib.Core.Bool.{Bool, false, _&&_}
 use mathlib.Core.List.{List, [], _∷_, _++_, map}
 use mathlib.Core.Option.{Option, none, some}
 use lib.Dec.{T, eqb}
 use lib.ListN.{length, replicate}
 use Rattle.model.specs.declared.Literal.{Literal}
 use Rattle.model.specs.declared.Literal.the-variants.{Pos, Neg}
-use Rattle.model.specs.declared.Group.{Group}
 use Rattle.model.specs.declared.Model.{Model}
 use Rattle.model.specs.declared.Closed.{Closed}
 use Rattle.model.specs.Lists.{every, pairwise, range}
-use Rattle.model.specs.Model.{tableOf, inRange}
+use Rattle.model.specs.Model.{tableOf}
 use Rattle.model.specs.Sheet.{readSheet}
 use Rattle.model.specs.Propagate.{propagated, sameTable, isFixpoint}
 use Rattle.model.specs.Totalizer.{treeClauseCount, treeOutputCount}
 use Rattle.model.specs.Cnf.{variableCount, clauses}
-use Rattle.model.specs.Text.{headerText, blockText, listing, blockRefusal}
+use Rattle.model.specs.Text.{headerText, listing, blockRefusal}
 use Rattle.model.specs.Dimacs.{Formula, readDimacs}
 use Rattle.model.specs.Assignment.{lineRead, valuesAfter}
 use Rattle.model.specs.Close.{closed}
@@ -74,7 +73,7 @@ isRefused r s = let a = propagated (modelOf s) in eqb (a .refusal) r && eqb (a .
 -- a solver line read onto fresh values, then closing
 closing : Model → String → Closed
 closing m s =
-    let values : List ℕ = replicate (variableCount (tableOf m)) 0 in
+    let values : List ℕ = replicate (variableCount m) 0 in
     closed m (lineRead freshReading (bytes s) values .reading) (valuesAfter freshReading (bytes s) values)
 
 closesAs : Model → String → ℕ → List ℕ → Bool

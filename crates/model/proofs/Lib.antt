@@ -5,3 +5,4 @@ pub mod Codes
 pub mod Numbers
 pub mod Solver
 pub mod Examples
+pub mod Refusals

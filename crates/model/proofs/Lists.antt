@@ -1,17 +1,17 @@
 -- Laws of the definitions' lists: tests, ranges, sums, places. Assumes nothing.
 use mathlib.Core.Path.{_≡_, refl, sym, ap, ap₂, _∙_, subst}
 use mathlib.Core.Logic.{_↔_}
-use Prim.Native.Nat.{ℕ, zero, suc, _+_, _-_, _*_, _≤_, _<_, suc-le-suc, min}
+use Prim.Native.Nat.{ℕ, zero, suc, _+_, _-_, _*_, _≤_, _<_, suc-le-suc}
 use native.Mathlib.Nat.{add-zero, zero-add, add-suc, suc-add, suc-inj, suc-mul, add-assoc, le-of-suc-le-suc}
 use native.Mathlib.Numerals.{add-one}
 use native.Mathlib.Omega.{arith}
 use native.Mathlib.Decide.{decLt, ℕ-discrete}
-use mathlib.Core.Bool.{Bool, true, false, not, _&&_, _||_}
+use mathlib.Core.Bool.{Bool, true, false, not, _&&_, _||_, Bool·beq}
 use mathlib.Core.List.{List, [], _∷_, _++_, map, append-assoc, append-nil, head-eq-of-cons-eq, tail-eq-of-cons-eq, List·Memᴰ, List·Memᴰ·head, List·Memᴰ·tail, List·Permᴰ, List·Permᴰ·nil, List·Permᴰ·cons, List·Permᴰ·swap, List·Permᴰ·trans}
-use lib.Dec.{T}
-use lib.ListN.{length, getD, set, take, drop, length-append, length-take, drop-of-length-le}
+use lib.Dec.{T, leb, leb→le, le→leb}
+use lib.ListN.{length, getD, set, take, drop, length-append, drop-of-length-le}
 use lib.Seq.{sets, sets-eq, take-at, set-at, append-snoc, drop-cons, take-suc, take-all, length-take-le}
-use Rattle.model.specs.Lists.{every, any, pairwise, those, each, total, range, onPlace}
+use Rattle.model.specs.Lists.{every, any, pairwise, those, each, total, range, onPlace, between}
 
 -- ---- tests as facts
 
@@ -51,6 +51,31 @@ and-assoc false b c = refl
 pub or-assoc : (a b c : Bool) → (a || b || c) ≡ (a || (b || c))
 or-assoc true b c = refl
 or-assoc false b c = refl
+
+pub between-le : (a b x : ℕ) → T (between a b x) → (a ≤ x) × (x ≤ b)
+between-le a b x t = (leb→le a x (and-left (leb a x) (leb x b) t), leb→le x b (and-right (leb a x) (leb x b) t))
+
+pub le-between : (a b x : ℕ) → a ≤ x → x ≤ b → T (between a b x)
+le-between a b x h k = and-both (leb a x) (leb x b) (le→leb a x h) (le→leb x b k)
+
+pub beq-refl : (b : Bool) → T (Bool·beq b b)
+beq-refl true = tt
+beq-refl false = tt
+
+pub beq-eq : (b c : Bool) → T (Bool·beq b c) → b ≡ c
+beq-eq true true t = refl
+beq-eq true false t = absurd t
+beq-eq false true t = absurd t
+beq-eq false false t = refl
+
+pub or-false : (b : Bool) → (b || false) ≡ b
+or-false true = refl
+or-false false = refl
+
+-- both sides of a false "or" are false
+pub or-none : (a b : Bool) → (a || b) ≡ false → (a ≡ false) × (b ≡ false)
+or-none true b e = absurd (let z : _≡_ {A = ℕ} 0 1 = cc in omega arith)
+or-none false b e = (refl, e)
 
 -- ---- joined lists
 
@@ -268,25 +293,7 @@ perm-length (List·Permᴰ·cons e p) = ap suc (perm-length p)
 perm-length (List·Permᴰ·swap e f) = refl
 perm-length (List·Permᴰ·trans p q) = perm-length p ∙ perm-length q
 
--- ---- a test kept by parts and by stores
-
-module _ {A : Type 0} (p : A → Bool) where
-  pub every-take : (k : ℕ) (l : List A) → T (every p l) → T (every p (take k l))
-  every-take zero l t = tt
-  every-take (suc k) [] t = tt
-  every-take (suc k) (x ∷ l) t =
-      and-both (p x) (every p (take k l)) (and-left (p x) (every p l) t) (every-take k l (and-right (p x) (every p l) t))
-
-  pub every-set : (l : List A) (i : ℕ) (a : A) → T (every p l) → T (p a) → T (every p (set l i a))
-  every-set [] i a t s = tt
-  every-set (x ∷ l) zero a t s = and-both (p a) (every p l) s (and-right (p x) (every p l) t)
-  every-set (x ∷ l) (suc i) a t s =
-      and-both (p x) (every p (set l i a)) (and-left (p x) (every p l) t) (every-set l i a (and-right (p x) (every p l) t) s)
-
-  pub every-sets : (vs l : List A) (i : ℕ) → T (every p l) → T (every p vs) → T (every p (sets l i vs))
-  every-sets [] l i t s = t
-  every-sets (a ∷ vs) l i t s =
-      every-sets vs (set l i a) (suc i) (every-set l i a t (and-left (p a) (every p vs) s)) (and-right (p a) (every p vs) s)
+-- ---- stores
 
 -- the first elements after a run of stores
 pub take-sets : {A : Type 0} (vs l : List A) (k : ℕ) → length vs ≡ k → k ≤ length l → take k (sets l 0 vs) ≡ vs
@@ -451,6 +458,18 @@ module _ {A : Type 0} where
   all-place P d (x ∷ xs) h zero l = h .0
   all-place P d (x ∷ xs) h (suc i) l = all-place P d xs (h .1) i (omega arith)
 
+  pub places-all : (P : A → Type 0) (d : A) (xs : List A) → ((i : ℕ) → i < length xs → P (getD xs i d)) → All P xs
+  places-all P d [] h = tt
+  places-all P d (x ∷ xs) h = (h 0 (omega arith), places-all P d xs (λ i l. h (suc i) (omega arith)))
+
+  pub any-none : (p : A → Bool) (xs : List A) → All (λ x. p x ≡ false) xs → any p xs ≡ false
+  any-none p [] h = refl
+  any-none p (x ∷ xs) h = rw (h .0) (any-none p xs (h .1))
+
+  pub none-any : (p : A → Bool) (xs : List A) → any p xs ≡ false → All (λ x. p x ≡ false) xs
+  none-any p [] e = tt
+  none-any p (x ∷ xs) e = let h = or-none (p x) (any p xs) e in (h .0, none-any p xs (h .1))
+
   pub all-each : {B : Type 0} (P : A → Type 0) (f : B → List A) (xs : List B) → All (λ x. All P (f x)) xs → All P (each f xs)
   all-each P f [] h = tt
   all-each P f (x ∷ xs) h = all-append P (f x) (each f xs) (h .0) (all-each P f xs (h .1))
@@ -472,6 +491,10 @@ every-range-ext p q i (suc n) h =
 pub every-all-ext : {A : Type 0} (p q : A → Bool) (xs : List A) → All (λ x. p x ≡ q x) xs → every p xs ≡ every q xs
 every-all-ext p q [] h = refl
 every-all-ext p q (x ∷ xs) h = ap₂ (λ (a b : Bool). a && b) (h .0) (every-all-ext p q xs (h .1))
+
+pub any-all-ext : {A : Type 0} (p q : A → Bool) (xs : List A) → All (λ x. p x ≡ q x) xs → any p xs ≡ any q xs
+any-all-ext p q [] h = refl
+any-all-ext p q (x ∷ xs) h = ap₂ _||_ (h .0) (any-all-ext p q xs (h .1))
 
 pub getD-map-in : {A B : Type 0} (f : A → B) (xs : List A) (i : ℕ) (d : A) (e : B) → i < length xs → getD (map f xs) i e ≡ f (getD xs i d)
 getD-map-in f [] i d e h = absurd (omega arith)
@@ -503,11 +526,6 @@ total-mono f g (x ∷ xs) h = omega (arith, h .0, total-mono f g xs (h .1))
 pub each-all : {A B : Type 0} (P : B → Type 0) (f : A → List B) (xs : List A) → All P (each f xs) → All (λ x. All P (f x)) xs
 each-all P f [] h = tt
 each-all P f (x ∷ xs) h = let s = all-both P (f x) (each f xs) .0 h in (s .0, each-all P f xs (s .1))
-
-pub any-range-ext : (p q : ℕ → Bool) (i n : ℕ) → ((j : ℕ) → i ≤ j → j < i + n → p j ≡ q j) → any p (range i n) ≡ any q (range i n)
-any-range-ext p q i zero h = refl
-any-range-ext p q i (suc n) h =
-    ap₂ (λ (x y : Bool). x || y) (h i (omega arith) (omega arith)) (any-range-ext p q (suc i) n (λ j l k. h j (omega arith) (omega arith)))
 
 -- two changes that agree on what stands at the place
 pub place-agree : {A : Type 0} (i : ℕ) (r q : A → A) (t : List A) (d : A) → (i < length t → r (getD t i d) ≡ q (getD t i d)) → onPlace i r t ≡ onPlace i q t

@@ -2,7 +2,7 @@
 -- omega reasons about them. Assumes nothing.
 use mathlib.Core.Path.{_≡_, refl, sym, ap, ap₂, _∙_, subst}
 use Prim.Native.Nat.{ℕ, zero, suc, _+_, _-_, _*_, _/_, _%_, _^_, _≤_, _<_, min, max}
-use native.Mathlib.Nat.{le-refl, le-trans, le-antisymm, div-add-mod', div-one, div-div-eq-div-mul, pow-zero, pow-suc, pow-succ'}
+use native.Mathlib.Nat.{le-refl, le-trans, le-antisymm, one-mul, mod-lt, div-add-mod', div-one, div-div-eq-div-mul, pow-succ'}
 use native.Mathlib.Omega.{arith}
 use native.Mathlib.Decide.{decLt}
 use native.Mathlib.Numerals.{add-one}
@@ -12,8 +12,13 @@ use lib.Dec.{T, eqb, eqb→eq, eqb-refl}
 use lib.Arith.{bin-ind, digits-div, digits-mod}
 use lib.Bits.{bitAnd, bitOr, bitXor, differ, and-step, or-step, xor-step}
 use lib.Count.{ones, ones-step, ones-le}
-use lib.Pow.{pow-pos, mod-pow-add}
+use lib.Pow.{pow-pos, mod-pow-add, shl-exact}
+use mathlib.Core.List.{List, [], _∷_}
+use Rattle.model.specs.Lists.{every, any, range}
+use Rattle.model.specs.Limits.{limits}
 use Rattle.model.specs.Words.{full, less, sizeIn, size, inside, bit, has, wordWhere}
+use Rattle.model.specs.Solution.{union}
+use Rattle.model.proofs.Lists.{T-ext, every-range, range-every}
 
 -- ---- a bit
 
@@ -380,15 +385,6 @@ pub one-has : (w e : ℕ) → bit e w ≡ 1 → has w e ≡ true
 unfolding has
 one-has w e h = rw h
 
-bools : (P : ℕ → ℕ → Type 0) → P 0 0 → P 0 1 → P 1 0 → P 1 1 → (x y : ℕ) → x ≤ 1 → y ≤ 1 → P x y
-bools P a b c d zero zero h k = a
-bools P a b c d zero (suc zero) h k = b
-bools P a b c d (suc zero) zero h k = c
-bools P a b c d (suc zero) (suc zero) h k = d
-bools P a b c d zero (suc (suc y)) h k = absurd (omega arith)
-bools P a b c d (suc zero) (suc (suc y)) h k = absurd (omega arith)
-bools P a b c d (suc (suc x)) y h k = absurd (omega arith)
-
 pub has-first : (w : ℕ) → has w 0 ≡ eqb (w % 2) 1
 unfolding has
 has-first w = rw (bit-first w)
@@ -420,7 +416,47 @@ word-ext p q zero h = refl
 word-ext p q (suc n) h =
     ap₂ (λ (x y : ℕ). x + y) (word-ext p q n (λ e l. h e (omega arith))) (ap (λ (b : Bool). cond b (2 ^ n) 0) (h n (omega arith)))
 
+-- a within b, entrant by entrant, where a has none past n
+pub inside-words : (n a b : ℕ) → a < 2 ^ n → inside a b ≡ every (λ e. not (has a e) || has b e) (range 0 n)
+inside-words n a b small =
+    T-ext (inside a b) (every (λ e. not (has a e) || has b e) (range 0 n))
+    (λ t. range-every (λ e. not (has a e) || has b e) 0 n (λ e _ _. to e (has a e) refl (sub-has a b (inside-sub a b t) e)))
+    (λ t. sub-inside a b (has-sub a b (λ e h. from t e h (decLt e n))))
+  where
+    to : (e : ℕ) (x : Bool) → has a e ≡ x → (T (has a e) → T (has b e)) → T (not x || has b e)
+    to e true p f = f (subst T (sym p) tt)
+    to e false p f = tt
+
+    here : (e : ℕ) (x : Bool) → has a e ≡ x → T x → T (not x || has b e) → T (has b e)
+    here e true p h t = t
+    here e false p h t = absurd h
+
+    from : T (every (λ e. not (has a e) || has b e) (range 0 n)) → (e : ℕ) → T (has a e) → Dec (e < n) → T (has b e)
+    from t e h (yes l) = here e (has a e) refl h (every-range (λ e. not (has a e) || has b e) 0 n t e (omega arith) (omega arith))
+    from t e h (no l) = absurd (subst T (has-past n a e small (omega arith)) h)
+
+-- ---- the union
+
+pub has-union : (ws : List ℕ) (e : ℕ) → has (union ws) e ≡ any (λ w. has w e) ws
+unfolding union
+has-union [] e = has-zero e
+has-union (w ∷ ws) e = has-or w (union ws) e ∙ ap (λ b. has w e || b) (has-union ws e)
+
+-- ---- the code's words
+
+-- `1 << e` is 2 to the e
+pub shifted : (e : ℕ) → e < limits .word → 1 * 2 ^ e % 2 ^ limits .word ≡ 2 ^ e
+shifted e h = shl-exact 1 e (limits .word) (omega arith) (omega arith) ∙ one-mul (2 ^ e)
+
+-- the entrants 1..n, of which there are no more than a word has bits
+pub entrants-full : (n : ℕ) → n ≤ limits .word → full (min n (limits .word)) ≡ full n
+entrants-full n h = ap full (omega arith)
+
 -- ---- the ones below a bit
+
+-- there are no more than e of them, where d is 2 to the e
+pub below-few : (w e d : ℕ) → d ≡ 2 ^ e → ones (w % d) ≤ e
+below-few w e d q = rw q (ones-le e (w % 2 ^ e) (mod-lt w (pow-pos e)))
 
 pub size-below : (e w : ℕ) → size (w % 2 ^ suc e) ≡ w % 2 + size (w / 2 % 2 ^ e)
 size-below e w =

@@ -7,7 +7,11 @@ use lib.ListN.{getD, take}
 use Rattle.model.specs.declared.Literal.{Literal}
 use Rattle.model.specs.declared.Literal.the-variants.{Pos, Neg}
 use Rattle.model.specs.declared.Constraint.{Constraint}
-use Rattle.model.specs.Lists.{range}
+use Rattle.model.specs.Lists.{range, between}
+
+-- the codes whose clauses are written entrant by entrant
+abbrev pub byEntrant : ℕ → Bool
+byEntrant code = between 1 6 code
 
 -- The groups of each code, "F G" or "H F G" or "H F1..Fk", are its members 0, 1, ..: how many there are
 unfoldable pub memberCount : ℕ → ℕ → ℕ

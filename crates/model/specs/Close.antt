@@ -1,7 +1,7 @@
 -- Closing: "The closing call changes no mark, checks every clause and gives each group's entrants as a table by value, zero past s."
 use Prim.Native.Nat.{ℕ, _-_}
 use mathlib.Core.Bool.{Bool, true, false, cond, not, _&&_}
-use mathlib.Core.List.{List, [], _∷_, _++_, map}
+use mathlib.Core.List.{List, _∷_, _++_, map}
 use lib.Dec.{eqb}
 use lib.ListN.{length, getD, replicate}
 use Rattle.model.specs.declared.Literal.{Literal}
@@ -14,8 +14,8 @@ use Rattle.model.specs.declared.Closed.{Closed}
 use Rattle.model.specs.Lists.{every, any, range, stop}
 use Rattle.model.specs.Words.{wordWhere}
 use Rattle.model.specs.Limits.{limits}
-use Rattle.model.specs.Model.{tableOf, inRange}
-use Rattle.model.specs.Propagate.{isFixpoint}
+use Rattle.model.specs.Model.{tableOf}
+use Rattle.model.specs.Propagate.{unsettledOr}
 use Rattle.model.specs.Cnf.{variableCount, membership, clauses}
 use Rattle.model.specs.Assignment.{isSaid}
 
@@ -57,11 +57,10 @@ assignmentOf values = map (λ b. eqb b 1) values
 -- "close 20, 22, 26, 27, 28"
 unfoldable pub closeRefusal : Model → Reading → List ℕ → ℕ
 closeRefusal m r values =
-    stop (not (inRange m)) 20
-    (stop (not (isFixpoint m)) 22
-    (stop (not (eqb (length values) (variableCount (tableOf m)))) 26
+    unsettledOr m
+    (stop (not (eqb (length values) (variableCount m))) 26
     (stop (not (r .closed && every isSaid values)) 27
-    (stop (not (satisfying m (assignmentOf values))) 28 0))))
+    (stop (not (satisfying m (assignmentOf values))) 28 0)))
 
 unfoldable pub closed : Model → Reading → List ℕ → Closed
 closed m r values = record {

@@ -1,7 +1,7 @@
 -- The clauses of the listing, block by block: numbering, totalizers, constraints, V and C.
-use Prim.Native.Nat.{ℕ, zero, suc, _+_, _-_, _%_, _^_}
+use Prim.Native.Nat.{ℕ, _+_, _-_, _%_, _^_}
 use mathlib.Core.Bool.{Bool, cond, _||_}
-use mathlib.Core.List.{List, [], _++_, map}
+use mathlib.Core.List.{List, [], map}
 use lib.Dec.{leb, ltb}
 use lib.ListN.{length, getD, take}
 use Rattle.model.specs.declared.Literal.{Literal}
@@ -51,9 +51,12 @@ firstOutput t g = 1 + total openCount t + total outputsOf (take (g - 1) t)
 unfoldable pub variableOf : List Group → ℕ → ℕ → ℕ
 variableOf t g e = firstVariable t g + size (openOf (groupAt t g) % 2 ^ e)
 
--- "V is the number of open marks plus A(m) per counter."
-unfoldable pub variableCount : List Group → ℕ
-variableCount t = total openCount t + total outputsOf t
+-- "V is the number of open marks plus A(m) per counter.": those of a table, and of a model
+unfoldable pub tableVariables : List Group → ℕ
+tableVariables t = total openCount t + total outputsOf t
+
+unfoldable pub variableCount : Model → ℕ
+variableCount m = tableVariables (tableOf m)
 
 -- ---- the clauses of a group's totalizer, "possibly empty"
 
@@ -89,9 +92,13 @@ blockClauses m b =
     let group = groupClauses t b in
     cond (leb b (m .s)) group constraint
 
+-- the blocks after block 0
+unfoldable pub blockCount : Model → ℕ
+blockCount m = m .s + m .c
+
 -- every clause of the listing, in order
 unfoldable pub clauses : Model → List (List Literal)
-clauses m = each (blockClauses m) (range 1 (m .s + m .c))
+clauses m = each (blockClauses m) (range 1 (blockCount m))
 
 -- "C is, per counter, T(m) + L + m - U, plus the line clauses not left out, entrants 1..n."
 unfoldable pub groupClauseCount : Group → ℕ

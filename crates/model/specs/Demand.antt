@@ -1,28 +1,24 @@
 -- What demand 3 speaks of: tables within tables, unchanged tables, accepted sheets and their orders, assignments, and a whole reading told on the
 -- solver's lines alone.
 use mathlib.Core.Path.{_≡_}
-use Prim.Native.Nat.{ℕ, zero, suc, _+_, _≤_}
-use mathlib.Core.Bool.{Bool, true, false, cond, not, _&&_, _||_}
+use Prim.Native.Nat.{ℕ, _+_}
+use mathlib.Core.Bool.{Bool, true, false, cond, not, _&&_}
 use mathlib.Core.List.{List, [], _∷_, _++_, List·Permᴰ}
 use mathlib.Core.Option.{Option, none, some}
 use lib.Dec.{leb, ltb, eqb}
 use lib.ListN.{length, getD, take, drop}
 use Rattle.model.specs.declared.Literal.{Literal}
-use Rattle.model.specs.declared.Literal.the-variants.{Pos, Neg}
 use Rattle.model.specs.declared.Group.{Group}
-use Rattle.model.specs.declared.Constraint.{Constraint}
 use Rattle.model.specs.declared.Model.{Model}
-use Rattle.model.specs.declared.SheetRead.{SheetRead}
 use Rattle.model.specs.declared.Reading.{Reading}
-use Rattle.model.specs.declared.LineRead.{LineRead}
 use Rattle.model.specs.Lists.{every, any, pairwise, each, range, stop}
 use Rattle.model.specs.Words.{inside}
 use Rattle.model.specs.Model.{tableOf, constraintsOf}
 use Rattle.model.specs.Sheet.{linesOf, readSheet}
 use Rattle.model.specs.Propagate.{rules, consistent, sameTable}
 use Rattle.model.specs.Cnf.{variableCount}
-use Rattle.model.specs.Assignment.{Said, nothingSaid, formOf, saidBy, isPassedOver, variable, isSaid, lineRead, valuesAfter}
-use Rattle.model.specs.Close.{truth, literalTrue, satisfying}
+use Rattle.model.specs.Assignment.{Said, formOf, saidBy, isPassedOver, variable, isSaid, lineRead, valuesAfter}
+use Rattle.model.specs.Close.{literalTrue, satisfying}
 
 -- ---- tables
 
@@ -63,7 +59,7 @@ pub record OrderOf (b o : List ℕ) (m : Model) : Type 0 where
 -- ---- assignments: "makes each variable 1..V true or false, and is satisfying when every clause of the listing has a true literal"
 
 unfoldable pub isAssignment : Model → List Bool → Bool
-isAssignment m a = eqb (length a) (variableCount (tableOf m))
+isAssignment m a = eqb (length a) (variableCount m)
 
 unfoldable pub isSatisfying : Model → List Bool → Bool
 isSatisfying m a = isAssignment m a && satisfying m a
@@ -75,7 +71,7 @@ unfoldable pub freshReading : Reading
 freshReading = record { closed = false }
 
 unfoldable pub isFresh : Model → List ℕ → Bool
-isFresh m values = eqb (length values) (variableCount (tableOf m)) && every (λ b. not (isSaid b)) values
+isFresh m values = eqb (length values) (variableCount m) && every (λ b. not (isSaid b)) values
 
 -- "each call gets the reading state and the lent marks as the last call left them, a refused one included"
 unfoldable pub readingAfter : List (List ℕ) → Reading → List ℕ → Reading

@@ -1,17 +1,17 @@
 -- The model of a sheet and the ranges that refusal 20 asks: "20 a model outside the sheet's ranges, an entrant past n in a set, a group twice in a
 -- line, or fixed not within possible (entries past s, c and a line's groups are ignored ..)".
-use Prim.Native.Nat.{ℕ, _-_, _^_}
+use Prim.Native.Nat.{ℕ, _-_, _^_, _≤_}
 use mathlib.Core.Bool.{Bool, not, _&&_, _||_}
 use mathlib.Core.List.{List, _++_}
 use lib.Dec.{leb, ltb, eqb}
-use lib.ListN.{replicate, getD, take, drop}
+use lib.ListN.{length, replicate, getD, take, drop}
 use Rattle.model.specs.declared.Group.{Group}
 use Rattle.model.specs.declared.Constraint.{Constraint}
 use Rattle.model.specs.declared.Model.{Model}
 use Rattle.model.specs.Lists.{every, between, distinct}
 use Rattle.model.specs.Words.{inside}
 use Rattle.model.specs.Limits.{limits}
-use Rattle.model.specs.Clauses.{groupsOf}
+use Rattle.model.specs.Clauses.{byEntrant, groupsOf}
 
 -- the all-zero model
 unfoldable pub zeroGroup : Group
@@ -44,6 +44,14 @@ groupAt t g = getD t (g - 1) zeroGroup
 unfoldable pub withTable : Model → List Group → Model
 withTable m t = record { n = m .n; s = m .s; c = m .c; groups = t ++ drop (m .s) (m .groups); constraints = m .constraints }
 
+-- the lists that stand for the model's arrays hold its groups and constraints, and a constraint's list as many groups as a constraint may have
+pub record Sized (m : Model) : Type 0 where
+  pub groups : m .s ≤ length (m .groups)
+  pub constraints : m .c ≤ length (m .constraints)
+
+abbrev pub membersSized : Model → Bool
+membersSized m = every (λ c. leb (limits .members) (length (c .groups))) (constraintsOf m)
+
 -- "low ≤ high ≤ n", no entrant past n, fixed within possible
 unfoldable pub groupInRange : ℕ → Group → Bool
 groupInRange n g =
@@ -51,7 +59,7 @@ groupInRange n g =
 
 -- code 1 to 6, "a count k (2 to 16)" of code 6, "Group numbers are 1 to s, all different in a line"
 unfoldable pub codeInRange : ℕ → ℕ → Bool
-codeInRange code k = between 1 6 code && (not (eqb code 6) || between 2 (limits .members - 1) k)
+codeInRange code k = byEntrant code && (not (eqb code 6) || between 2 (limits .members - 1) k)
 
 unfoldable pub constraintInRange : ℕ → Constraint → Bool
 constraintInRange s c = codeInRange (c .code) (c .count) && every (between 1 s) (groupsOf c) && distinct (groupsOf c)

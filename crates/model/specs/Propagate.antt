@@ -2,7 +2,7 @@
 use Prim.Native.Nat.{ℕ, zero, suc, _+_, _-_, _*_, min, max}
 use mathlib.Core.Bool.{Bool, true, false, cond, not, _&&_}
 use mathlib.Core.List.{List, [], _∷_, _++_, map}
-use lib.Dec.{leb, eqb}
+use lib.Dec.{T, leb, eqb}
 use lib.Bits.{bitAnd, bitOr}
 use Rattle.model.specs.declared.Literal.{Literal}
 use Rattle.model.specs.declared.Literal.the-variants.{Pos, Neg}
@@ -10,10 +10,10 @@ use Rattle.model.specs.declared.Group.{Group}
 use Rattle.model.specs.declared.Constraint.{Constraint}
 use Rattle.model.specs.declared.Model.{Model}
 use Rattle.model.specs.declared.Propagated.{Propagated}
-use Rattle.model.specs.Lists.{every, pairwise, range, onPlace}
+use Rattle.model.specs.Lists.{every, pairwise, range, onPlace, stop}
 use Rattle.model.specs.Words.{full, less, size, inside}
 use Rattle.model.specs.Clauses.{clausesOf}
-use Rattle.model.specs.Model.{groupAt, tableOf, constraintsOf, withTable, inRange}
+use Rattle.model.specs.Model.{groupAt, tableOf, constraintsOf, withTable, Sized, inRange}
 
 -- ---- "Group rule"
 
@@ -154,3 +154,13 @@ propagated m = let done = propagatedAs m (outcome m) in cond (inRange m) done (r
 -- "22 a pass would change the table or end in 21": refusal 22 is the opposite of this
 unfoldable pub isFixpoint : Model → Bool
 isFixpoint m = let t = pass m (tableOf m) in consistent t && sameTable t (tableOf m)
+
+-- 20, then 22: what each entry that asks for a settled model judges first, and the refusals after them
+unfoldable pub unsettledOr : Model → ℕ → ℕ
+unsettledOr m rest = stop (not (inRange m)) 20 (stop (not (isFixpoint m)) 22 rest)
+
+-- a model that neither refuses, with its lists whole
+pub record Settled (m : Model) : Type 0 where
+  pub in-range : T (inRange m)
+  pub fixpoint : T (isFixpoint m)
+  pub sized : Sized m

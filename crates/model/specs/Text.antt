@@ -1,6 +1,6 @@
 -- The bytes of the listing, and what the block writer answers.
 use Prim.Native.Nat.{ℕ, zero, suc, _+_, _/_, _%_}
-use mathlib.Core.Bool.{Bool, true, false, cond, not, _&&_}
+use mathlib.Core.Bool.{Bool, true, false, cond, _&&_}
 use mathlib.Core.List.{List, [], _∷_, _++_}
 use lib.Dec.{ltb, eqb}
 use lib.ListN.{length, drop}
@@ -10,9 +10,8 @@ use Rattle.model.specs.declared.Model.{Model}
 use Rattle.model.specs.declared.Written.{Written}
 use Rattle.model.specs.declared.Written.the-variants.{Bytes, Refused}
 use Rattle.model.specs.Lists.{any, each, range, isEmpty, stop}
-use Rattle.model.specs.Model.{inRange, tableOf}
-use Rattle.model.specs.Propagate.{isFixpoint}
-use Rattle.model.specs.Cnf.{variableCount, clauseCount, blockClauses}
+use Rattle.model.specs.Propagate.{unsettledOr}
+use Rattle.model.specs.Cnf.{variableCount, blockCount, clauseCount, blockClauses}
 
 -- ---- numbers
 
@@ -38,7 +37,7 @@ clauseText c = each literalText c ++ (48 ∷ 10 ∷ [])
 unfoldable pub headerText : Model → List ℕ
 headerText m =
     (112 ∷ 32 ∷ 99 ∷ 110 ∷ 102 ∷ 32 ∷ [])
-    ++ decimal (variableCount (tableOf m)) ++ (32 ∷ [])
+    ++ decimal (variableCount m) ++ (32 ∷ [])
     ++ decimal (clauseCount m) ++ (10 ∷ [])
 
 unfoldable pub blockText : Model → ℕ → List ℕ
@@ -49,7 +48,7 @@ blockText m b =
 
 -- "The listing is all its blocks, from 0 up."
 unfoldable pub listing : Model → List ℕ
-listing m = each (blockText m) (range 0 (m .s + m .c + 1))
+listing m = each (blockText m) (range 0 (blockCount m + 1))
 
 -- ---- the block writer, for a buffer of `room` bytes: "block 20, 22, 23, 29, 24"
 
@@ -59,11 +58,10 @@ hasEmptyClause m b = ltb (m .s) b && any isEmpty (blockClauses m b)
 
 unfoldable pub blockRefusal : Model → ℕ → ℕ → ℕ
 blockRefusal m b room =
-    stop (not (inRange m)) 20
-    (stop (not (isFixpoint m)) 22
-    (stop (ltb (m .s + m .c) b) 23
+    unsettledOr m
+    (stop (ltb (blockCount m) b) 23
     (stop (hasEmptyClause m b) 29
-    (stop (ltb room (length (blockText m b))) 24 0))))
+    (stop (ltb room (length (blockText m b))) 24 0)))
 
 -- "A written block returns its length"
 unfoldable pub writtenBlock : Model → ℕ → ℕ → Written

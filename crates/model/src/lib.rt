@@ -1,14 +1,15 @@
 // The model of a sheet: its types, its limits and the range check (refusal 20), and what each entry answers.
 // Everything above is built on this crate: its specs/ hold every definition of document 01.
 ghost use mathlib.Core.Path.{_≡_};
-ghost use Prim.Native.Nat.{_≤_};
+ghost use Prim.Native.Nat.{_≤_, min};
 ghost use lib.Dec.{eqb};
 ghost use lib.ListN.{take, drop};
 ghost use Rattle.model.specs.Lists.{every, any, distinct, between};
 ghost use Rattle.model.specs.Limits.{limits};
+ghost use Rattle.model.specs.Words.{full};
 ghost use Rattle.model.specs.Clauses.{memberCount};
 ghost use Rattle.model.specs.Sheet.{shortNumber};
-ghost use Rattle.model.specs.Model.{zeroModel, tableOf, constraintsOf, groupInRange, codeInRange, constraintInRange, inRange};
+ghost use Rattle.model.specs.Model.{zeroModel, groupInRange, codeInRange, constraintInRange, inRange};
 
 // "F" and "-F" of document 01: of a member of a constraint, of a group, or of a variable.
 pub enum Literal {
@@ -105,6 +106,7 @@ pub struct Closed {
 
 // The limits in one value, for the law that the constants below are the definitions' numbers.
 pub struct Limits {
+    pub word: u32,
     pub entrants: u32,
     pub groups: usize,
     pub constraints: usize,
@@ -115,6 +117,8 @@ pub struct Limits {
 }
 
 impl Model {
+    pub const WORD: u32 = 64;
+
     pub const ENTRANTS: u32 = 32;
 
     pub const GROUPS: usize = 256;
@@ -133,6 +137,7 @@ impl Model {
         ensures { λ r. ⌜ r ≡ limits ⌝ }
     {
         Limits {
+            word: Model::WORD,
             entrants: Model::ENTRANTS,
             groups: Model::GROUPS,
             constraints: Model::CONSTRAINTS,
@@ -195,6 +200,16 @@ impl Model {
     }
 }
 
+// The entrants 1 to n as a word; as many as a word has fill it, which no shift gives.
+pub fn entrants(n: u32) -> u64
+    ensures { λ r. ⌜ r ≡ full (min n (limits .word)) ⌝ }
+{
+    if n < Model::WORD {
+        return (1 << n) - 1;
+    }
+    18446744073709551615
+}
+
 fn group_in_range(g: Group, n: u32) -> bool
     requires { ⌜ n ≤ limits .entrants ⌝ }
     ensures { λ r. ⌜ r ≡ groupInRange n g ⌝ }
@@ -202,7 +217,7 @@ fn group_in_range(g: Group, n: u32) -> bool
     if g.fixed & g.possible != g.fixed {
         return false;
     }
-    if 1 << n <= g.possible {
+    if entrants(n) < g.possible {
         return false;
     }
     if g.high < g.low {

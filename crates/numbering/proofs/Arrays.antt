@@ -12,18 +12,11 @@ use lib.ListN.{length, getD, set, take, length-take}
 use lib.Seq.{take-suc, take-all, getD-take}
 use Rattle.model.specs.Lists.{range, total}
 use Rattle.model.specs.Limits.{limits}
-use Rattle.numbering.specs.Counter.{numbers}
+use Rattle.numbering.specs.Numbering.{numbers}
 use Rattle.model.proofs.Lists.{total-append, range-getD, range-length}
 
 pub next-take : {A : Type 0} (xs : List A) (i : ℕ) (d : A) → i < length xs → take (i + 1) xs ≡ take i xs ++ getD xs i d ∷ []
 next-take xs i d h = ap (λ (n : ℕ). take n xs) (add-one i) ∙ take-suc xs i d h
-
-pub take-less : {A : Type 0} (xs : List A) (k s : ℕ) → k ≤ s → take k (take s xs) ≡ take k xs
-take-less xs zero s h = refl
-take-less [] (suc k) zero h = refl
-take-less [] (suc k) (suc s) h = refl
-take-less (x ∷ xs) (suc k) zero h = absurd (omega arith)
-take-less {A} (x ∷ xs) (suc k) (suc s) h = ap {B = List A} (λ l. x ∷ l) (take-less xs k s (omega arith))
 
 -- ---- filling
 

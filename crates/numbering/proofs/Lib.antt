@@ -1,2 +1,3 @@
 pub mod Arrays
-pub mod Counters
+pub mod Totalizers
+pub mod Models

@@ -1,1 +1,1 @@
-pub mod Counter
+pub mod Numbering

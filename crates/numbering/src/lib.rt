@@ -1,13 +1,13 @@
 // Which number each variable gets: the open entrants, group by group, then the totalizers' outputs. Read by the block writer and by closing.
 ghost use mathlib.Core.Path.{_≡_};
 ghost use mathlib.Core.Bool.{cond};
-ghost use Prim.Native.Nat.{_-_, _≤_, min};
-ghost use lib.ListN.{length, take};
+ghost use Prim.Native.Nat.{_+_, _*_, _-_, _≤_, min};
+ghost use lib.ListN.{take};
 ghost use Rattle.model.specs.Lists.{total};
 ghost use Rattle.model.specs.Limits.{limits};
 ghost use Rattle.model.specs.Totalizer.{treeOutputCount};
-ghost use Rattle.model.specs.Cnf.{openCount, outputsOf, variableCount};
-ghost use Rattle.numbering.specs.Counter.{counterOf, firstVariables, firstOutputs};
+ghost use Rattle.model.specs.Cnf.{openCount, outputsOf};
+ghost use Rattle.numbering.specs.Numbering.{totalizerOf, firstVariables, firstOutputs, numberingOf};
 use model::Group;
 use model::Model;
 
@@ -15,7 +15,7 @@ use model::Model;
 
 // How many entrants are open.
 fn open_count(g: Group) -> u32
-    ensures { λ r. ⌜ (r ≡ openCount g) × (r ≤ 64) ⌝ }
+    ensures { λ r. ⌜ (r ≡ openCount g) × (r ≤ limits .word) ⌝ }
 {
     u64::count_ones(g.possible ^ (g.possible & g.fixed))
 }
@@ -31,24 +31,24 @@ fn less(a: u32, b: u32) -> u32
 }
 
 // m, L and U of a group, and whether it has a totalizer.
-pub struct Counter {
-    pub free: u32,
+pub struct Totalizer {
+    pub size: u32,
     pub low: u32,
     pub high: u32,
     pub exists: bool,
 }
 
-pub fn counter_of(g: Group) -> Counter
-    ensures { λ r. ⌜ r ≡ counterOf g ⌝ }
-    ensures { λ r. ⌜ r .free ≤ 64 ⌝ }
+pub fn totalizer_of(g: Group) -> Totalizer
+    ensures { λ r. ⌜ r ≡ totalizerOf g ⌝ }
+    ensures { λ r. ⌜ r .size ≤ limits .word ⌝ }
 {
-    let free = open_count(g);
+    let size = open_count(g);
     let fixed = u64::count_ones(g.fixed);
     let low = less(g.low, fixed);
     let high = less(g.high, fixed);
-    let exists = 0 < low || high < free;
-    Counter {
-        free,
+    let exists = 0 < low || high < size;
+    Totalizer {
+        size,
         low,
         high,
         exists,
@@ -58,7 +58,7 @@ pub fn counter_of(g: Group) -> Counter
 // ---- its outputs
 
 // "outputs A(1) = 0, A(m) = m + A(left) + A(right)", for every size of a word's set.
-const OUTPUTS: [u32; 65] = [
+const OUTPUTS: [u32; Model::WORD as usize + 1] = [
     0,
     0,
     2,
@@ -126,31 +126,31 @@ const OUTPUTS: [u32; 65] = [
     384,
 ];
 
-// The outputs of a tree of size m; a size past 64, which no group has, counts as 64.
+// The outputs of a tree of size m; a size past a word's, which no group has, counts as a word's.
 pub fn output_count(m: u32) -> u32
-    ensures { λ r. ⌜ r ≡ treeOutputCount (min m 64) ⌝ }
+    ensures { λ r. ⌜ r ≡ treeOutputCount (min m (limits .word)) ⌝ }
 {
-    if 64 < m {
-        return OUTPUTS[64];
+    if Model::WORD < m {
+        return OUTPUTS[Model::WORD as usize];
     }
     OUTPUTS[m as usize]
 }
 
 fn outputs_of(g: Group) -> u32
-    ensures { λ r. ⌜ (r ≡ outputsOf g) × (r ≤ 384) ⌝ }
+    ensures { λ r. ⌜ (r ≡ outputsOf g) × (r ≤ treeOutputCount (limits .word)) ⌝ }
 {
-    let c = counter_of(g);
-    if !c.exists {
+    let t = totalizer_of(g);
+    if !t.exists {
         return 0;
     }
-    output_count(c.free)
+    output_count(t.size)
 }
 
-// ---- sums over groups
+// ---- all groups
 
 // 0 where a group does not count.
 fn open_where(counts: bool, g: Group) -> u32
-    ensures { λ r. ⌜ (r ≡ cond counts (openCount g) 0) × (r ≤ 64) ⌝ }
+    ensures { λ r. ⌜ (r ≡ cond counts (openCount g) 0) × (r ≤ limits .word) ⌝ }
 {
     if counts {
         return open_count(g);
@@ -159,7 +159,7 @@ fn open_where(counts: bool, g: Group) -> u32
 }
 
 fn outputs_where(counts: bool, g: Group) -> u32
-    ensures { λ r. ⌜ (r ≡ cond counts (outputsOf g) 0) × (r ≤ 384) ⌝ }
+    ensures { λ r. ⌜ (r ≡ cond counts (outputsOf g) 0) × (r ≤ treeOutputCount (limits .word)) ⌝ }
 {
     if counts {
         return outputs_of(g);
@@ -167,61 +167,63 @@ fn outputs_where(counts: bool, g: Group) -> u32
     0
 }
 
+// A number for each group, and the next free one.
+struct Numbered {
+    first: [u32; Model::GROUPS],
+    next: u32,
+}
+
 // The first variable of each group, of which the first s count.
-pub fn first_variables(groups: [Group; Model::GROUPS], s: u32) -> [u32; Model::GROUPS]
-    ensures { λ r. ⌜ (length r ≡ limits .groups) × (r ≡ firstVariables (take s groups)) ⌝ }
+fn number_open(groups: [Group; Model::GROUPS], s: u32) -> Numbered
+    ensures { λ r. ⌜ (r .first ≡ firstVariables (take s groups)) × (r .next ≡ 1 + total openCount (take s groups)) × (r .next ≤ 1 + limits .groups * limits .word) ⌝ }
 {
-    let mut r = [0; Model::GROUPS];
+    let mut first = [0; Model::GROUPS];
     let mut next = 1;
     let mut i: usize = 0;
     while i < Model::GROUPS {
-        r[i] = next;
+        first[i] = next;
         let g = groups[i];
         next += open_where(i < s as usize, g);
         i += 1;
     }
-    r
+    Numbered { first, next }
 }
 
-fn total_open(groups: [Group; Model::GROUPS], s: u32) -> u32
-    ensures { λ r. ⌜ (r ≡ total openCount (take s groups)) × (r ≤ 16384) ⌝ }
+// The first output of each group's totalizer, had it one, from the number after the open entrants' on.
+fn number_outputs(groups: [Group; Model::GROUPS], s: u32, from: u32) -> Numbered
+    requires { ⌜ (from ≡ 1 + total openCount (take s groups)) × (from ≤ 1 + limits .groups * limits .word) ⌝ }
+    ensures { λ r. ⌜ (r .first ≡ firstOutputs (take s groups)) × (r .next ≡ from + total outputsOf (take s groups)) ⌝ }
 {
-    let mut r = 0;
+    let mut first = [0; Model::GROUPS];
+    let mut next = from;
     let mut i: usize = 0;
     while i < Model::GROUPS {
-        let g = groups[i];
-        r += open_where(i < s as usize, g);
-        i += 1;
-    }
-    r
-}
-
-// The first output of each group's totalizer, had it one.
-pub fn first_outputs(groups: [Group; Model::GROUPS], s: u32) -> [u32; Model::GROUPS]
-    ensures { λ r. ⌜ (length r ≡ limits .groups) × (r ≡ firstOutputs (take s groups)) ⌝ }
-{
-    let mut r = [0; Model::GROUPS];
-    let mut next = 1 + total_open(groups, s);
-    let mut i: usize = 0;
-    while i < Model::GROUPS {
-        r[i] = next;
+        first[i] = next;
         let g = groups[i];
         next += outputs_where(i < s as usize, g);
         i += 1;
     }
-    r
+    Numbered { first, next }
 }
 
-// V
-pub fn variable_count(groups: [Group; Model::GROUPS], s: u32) -> u32
-    ensures { λ r. ⌜ r ≡ variableCount (take s groups) ⌝ }
+// The first variable and the first output of each group, and V.
+pub struct Numbering {
+    pub first: [u32; Model::GROUPS],
+    pub outputs: [u32; Model::GROUPS],
+    pub variables: u32,
+}
+
+pub fn of_model(m: Model) -> Numbering
+    ensures { λ r. ⌜ r ≡ numberingOf m ⌝ }
 {
-    let mut r = total_open(groups, s);
-    let mut i: usize = 0;
-    while i < Model::GROUPS {
-        let g = groups[i];
-        r += outputs_where(i < s as usize, g);
-        i += 1;
+    let groups = m.groups;
+    let v = number_open(groups, m.s);
+    let o = number_outputs(groups, m.s, v.next);
+    let first = v.first;
+    let outputs = o.first;
+    Numbering {
+        first,
+        outputs,
+        variables: o.next - 1,
     }
-    r
 }

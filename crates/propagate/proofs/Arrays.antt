@@ -143,8 +143,8 @@ zipped-zero (suc n) = ap {B = List Group} (λ l. group 0 0 0 0 ∷ l) (zipped-ze
 abbrev pub Read : List Group → ℕ → List ℕ → List ℕ → List ℕ → List ℕ → Type 0
 Read gs i f p l h = zipped f p l h ≡ take i gs ++ drop i (replicate (limits .groups) zeroGroup)
 
-pub read-none : (gs : List Group) → Read gs 0 (replicate 256 0) (replicate 256 0) (replicate 256 0) (replicate 256 0)
-read-none gs = zipped-zero 256
+pub read-none : (gs : List Group) → Read gs 0 (replicate (limits .groups) 0) (replicate (limits .groups) 0) (replicate (limits .groups) 0) (replicate (limits .groups) 0)
+read-none gs = zipped-zero (limits .groups)
 
 module _ (gs : List Group) (w : Whole gs) (i : ℕ) (f p l h : List ℕ) (inv : Read gs i f p l h) where
   pub read-next : i < limits .groups → (d : Group)
@@ -154,10 +154,10 @@ module _ (gs : List Group) (w : Whole gs) (i : ℕ) (f p l h : List ℕ) (inv : 
       zipped-set f p l h i (g .fixed) (g .possible) (g .low) (g .high)
       ∙ place-set i (λ x. g) (zipped f p l h) zeroGroup
       ∙ ap (λ (x : List Group). set x i g) inv
-      ∙ seam-next gs (replicate 256 zeroGroup) i d (omega arith) (omega (arith, length-replicate 256 zeroGroup))
+      ∙ seam-next gs (replicate (limits .groups) zeroGroup) i d (omega arith) (omega (arith, length-replicate (limits .groups) zeroGroup))
 
   pub read-all : limits .groups ≤ i → zipped f p l h ≡ gs
-  read-all k = inv ∙ seam-end gs (replicate 256 zeroGroup) i (omega arith) (omega (arith, length-replicate 256 zeroGroup))
+  read-all k = inv ∙ seam-end gs (replicate (limits .groups) zeroGroup) i (omega arith) (omega (arith, length-replicate (limits .groups) zeroGroup))
 
 -- ---- loops that look at the first s groups
 

@@ -1,6 +1,6 @@
 -- Laws for the loops: what the rules from place i on make of the table now is what all of them make of the table at the start. Assumes nothing.
 use mathlib.Core.Path.{_≡_, refl, sym, ap, ap₂, _∙_, subst}
-use Prim.Native.Nat.{ℕ, suc, _+_, _-_, _≤_, _<_}
+use Prim.Native.Nat.{ℕ, suc, _+_, _-_, _≤_, _<_, min}
 use native.Mathlib.Nat.{sub-zero}
 use native.Mathlib.Numerals.{add-one}
 use native.Mathlib.Omega.{arith}
@@ -12,10 +12,12 @@ use Rattle.model.specs.declared.Literal.the-variants.{Pos}
 use Rattle.model.specs.declared.Group.{Group}
 use Rattle.model.specs.declared.Constraint.{Constraint}
 use Rattle.model.specs.Lists.{range}
+use Rattle.model.specs.Limits.{limits}
 use Rattle.model.specs.Words.{full}
 use Rattle.model.specs.Clauses.{memberClauses, ofGroup, clausesOf}
 use Rattle.model.specs.Propagate.{groupRuleAt, falseIn, allFalse, madeTrue, literalRule, run, clauseRules, clauseRule, constraintRule}
-use Rattle.propagate.specs.Flat.{zipped, Whole, Acts, AllFalse, LiteralStands, clauseOf, ClauseStands}
+use Rattle.model.proofs.Words.{entrants-full}
+use Rattle.propagate.specs.Flat.{zipped, Whole, Changes, Acts, AllFalse, LiteralStands, clauseOf, ClauseStands}
 
 -- ---- groups i + 1 to s
 
@@ -81,11 +83,11 @@ module _ (f p ids : List ℕ) (c : List Literal) (n i : ℕ) (x : Literal) (is :
   rest-is = ap (drop (i + 1)) (take-all count ls (omega (arith, length-map c (ofGroup ids))))
 
   -- made true where those before it and those after it are false
-  pub literal-made : (w₀ w₁ w : ℕ) → w₀ ≡ full n → AllFalse w₁ f p w₀ (slice 0 i (map (ofGroup ids) c))
+  pub literal-made : n ≤ limits .word → (w₀ w₁ w : ℕ) → w₀ ≡ full (min n (limits .word)) → AllFalse w₁ f p w₀ (slice 0 i (map (ofGroup ids) c))
       → AllFalse w f p w₁ (slice (i + 1) count (map (ofGroup ids) c)) → (f₁ p₁ : List ℕ) → Acts (madeTrue (ofGroup ids x) w) f p f₁ p₁
       → Acts (literalRule n (ofGroup ids (getD c i (Pos 0))) (take i (map (ofGroup ids) c) ++ drop (i + 1) (map (ofGroup ids) c))) f p f₁ p₁
   unfolding literalRule
-  literal-made w₀ w₁ w e a b f₁ p₁ m l h k =
+  literal-made few w₀ w₁ w e a b f₁ p₁ m l h k =
       (m l h k .0, m l h k .1 ∙ ap₂ (λ y (z : ℕ). madeTrue (ofGroup ids y) z (zipped f p l h)) is word)
     where
       t : List Group
@@ -94,7 +96,7 @@ module _ (f p ids : List ℕ) (c : List Literal) (n i : ℕ) (x : Literal) (is :
       word : w ≡ allFalse (zipped f p l h) (full n) (take i (map (ofGroup ids) c) ++ drop (i + 1) (map (ofGroup ids) c))
       word =
           b l h k
-          ∙ ap₂ (λ (y : ℕ) zs. allFalse t y zs) (a l h k ∙ ap (λ (y : ℕ). allFalse t y (take i ls)) e) rest-is
+          ∙ ap₂ (λ (y : ℕ) zs. allFalse t y zs) (a l h k ∙ ap (λ (y : ℕ). allFalse t y (take i ls)) (e ∙ entrants-full n few)) rest-is
           ∙ sym (false-append t (full n) (take i ls) (drop (i + 1) ls))
 
 -- ---- rules of the sets alone
@@ -192,48 +194,63 @@ clauses-end n c j h t =
     ap (λ m. run (map (clauseRule n) m) t) (drop-of-length-le (clausesOf c) k)
 
 module _ (n : ℕ) (c : Constraint) (f p : List ℕ) where
+  abbrev pub clausesAll : List Group → List Group
+  clausesAll = run (map (clauseRule n) (clausesOf c))
+
   abbrev pub ClausesLeft : ℕ → List ℕ → List ℕ → Type 0
-  ClausesLeft j f₁ p₁ = Goes (constraintRule n c) (clausesFrom n c j) f p f₁ p₁
+  ClausesLeft j f₁ p₁ = Goes clausesAll (clausesFrom n c j) f p f₁ p₁
 
   pub clauses-left : ClausesLeft 0 f p
-  unfolding constraintRule
-  clauses-left = goes-start (constraintRule n c) f p
+  clauses-left = goes-start clausesAll f p
 
   module _ (j : ℕ) (f₁ p₁ : List ℕ) (inv : ClausesLeft j f₁ p₁) where
     pub clause-done : j < length (memberClauses (c .code) (c .count)) → (f₂ p₂ : List ℕ)
         → Acts (clauseRule n (map (ofGroup (c .groups)) (clauseOf (c .code) (c .count) j))) f₁ p₁ f₂ p₂ → ClausesLeft (j + 1) f₂ p₂
     clause-done h f₂ p₂ a =
-        goes-next (constraintRule n c) f p (clausesFrom n c j) f₁ p₁ inv (clauseRule n (map (ofGroup (c .groups)) (clauseOf (c .code) (c .count) j)))
+        goes-next clausesAll f p (clausesFrom n c j) f₁ p₁ inv (clauseRule n (map (ofGroup (c .groups)) (clauseOf (c .code) (c .count) j)))
         (clausesFrom n c (j + 1)) f₂ p₂ a (clauses-next n c j h)
 
-    pub no-clause-left : length (memberClauses (c .code) (c .count)) ≤ j → Acts (constraintRule n c) f p f₁ p₁
-    no-clause-left h = goes-end (constraintRule n c) f p (clausesFrom n c j) f₁ p₁ inv (clauses-end n c j h)
+    pub no-clause-left : length (memberClauses (c .code) (c .count)) ≤ j → Acts clausesAll f p f₁ p₁
+    no-clause-left h = goes-end clausesAll f p (clausesFrom n c j) f₁ p₁ inv (clauses-end n c j h)
+
+-- a constraint's clauses are its rule
+pub constraint-made : (n : ℕ) (c : Constraint) (f p f₁ p₁ l h : List ℕ) → Acts (run (map (clauseRule n) (clausesOf c))) f p f₁ p₁
+    → Changes (constraintRule n c) (zipped f p l h) (zipped f₁ p₁ l h)
+unfolding constraintRule
+constraint-made n c f p f₁ p₁ l h a = a l h
 
 -- ---- constraints j + 1 to c
 
 abbrev pub constraintsFrom : ℕ → List Constraint → ℕ → List Group → List Group
 constraintsFrom n cs j = run (map (constraintRule n) (drop j cs))
 
-module _ (n : ℕ) (cs : List Constraint) (f p : List ℕ) where
-  abbrev pub ConstraintsLeft : ℕ → List ℕ → List ℕ → Type 0
-  ConstraintsLeft j f₁ p₁ = Goes (run (map (constraintRule n) cs)) (constraintsFrom n cs j) f p f₁ p₁
+module _ (n : ℕ) (cs : List Constraint) (t : List Group) where
+  -- the constraints from j on make of u what all of them make of t
+  abbrev pub ConstraintsLeft : ℕ → List Group → Type 0
+  ConstraintsLeft j u = Whole t → Whole u × (run (map (constraintRule n) cs) t ≡ constraintsFrom n cs j u)
 
-  pub constraints-left : ConstraintsLeft 0 f p
-  constraints-left = goes-start (run (map (constraintRule n) cs)) f p
+  pub constraints-left : ConstraintsLeft 0 t
+  constraints-left w = (w, refl)
 
-  module _ (j : ℕ) (f₁ p₁ : List ℕ) (inv : ConstraintsLeft j f₁ p₁) where
-    constraint-next : j < length cs → (d : Constraint) (f₂ p₂ : List ℕ) → Acts (constraintRule n (getD cs j d)) f₁ p₁ f₂ p₂ → ConstraintsLeft (j + 1) f₂ p₂
-    constraint-next h d f₂ p₂ a =
-        goes-next (run (map (constraintRule n) cs)) f p (constraintsFrom n cs j) f₁ p₁ inv (constraintRule n (getD cs j d)) (constraintsFrom n cs (j + 1)) f₂ p₂ a
-        (λ t. ap (λ m. run (map (constraintRule n) m) t) (drop-cons cs j d h ∙ ap (λ (k : ℕ). getD cs j d ∷ drop k cs) (sym (add-one j))))
+  module _ (j : ℕ) (u : List Group) (inv : ConstraintsLeft j u) where
+    constraint-next : j < length cs → (d : Constraint) (v : List Group) → Changes (constraintRule n (getD cs j d)) u v → ConstraintsLeft (j + 1) v
+    constraint-next h d v a w =
+        let i = inv w in
+        let b = a (i .0) in (
+          b .0,
+          i .1
+              ∙ ap (λ m. run (map (constraintRule n) m) u) (drop-cons cs j d h ∙ ap (λ (k : ℕ). getD cs j d ∷ drop k cs) (sym (add-one j)))
+              ∙ ap (constraintsFrom n cs (j + 1)) (sym (b .1)),
+        )
 
-    pub no-constraint-left : length cs ≤ j → Acts (run (map (constraintRule n) cs)) f p f₁ p₁
-    no-constraint-left h =
-        goes-end (run (map (constraintRule n) cs)) f p (constraintsFrom n cs j) f₁ p₁ inv (λ t. ap (λ m. run (map (constraintRule n) m) t) (drop-of-length-le cs h))
+    pub no-constraint-left : length cs ≤ j → Changes (run (map (constraintRule n) cs)) t u
+    no-constraint-left h w =
+        let i = inv w in
+        (i .0, sym (i .1 ∙ ap (λ m. run (map (constraintRule n) m) u) (drop-of-length-le cs h)))
 
-pub constraint-done : (n : ℕ) (cs : List Constraint) (c : ℕ) → c ≤ length cs → (f p : List ℕ) (j : ℕ) (f₁ p₁ : List ℕ)
-    → ConstraintsLeft n (take c cs) f p j f₁ p₁ → j < c → (d : Constraint) (f₂ p₂ : List ℕ) → Acts (constraintRule n (getD cs j d)) f₁ p₁ f₂ p₂
-    → ConstraintsLeft n (take c cs) f p (j + 1) f₂ p₂
-constraint-done n cs c k f p j f₁ p₁ inv h d f₂ p₂ a =
-    constraint-next n (take c cs) f p j f₁ p₁ inv (omega (arith, length-take c cs)) d f₂ p₂
-    (subst (λ x. Acts (constraintRule n x) f₁ p₁ f₂ p₂) (sym (getD-take c cs j d h)) a)
+pub constraint-done : (n : ℕ) (cs : List Constraint) (c : ℕ) → c ≤ length cs → (t : List Group) (j : ℕ) (u : List Group)
+    → ConstraintsLeft n (take c cs) t j u → j < c → (d : Constraint) (v : List Group) → Changes (constraintRule n (getD cs j d)) u v
+    → ConstraintsLeft n (take c cs) t (j + 1) v
+constraint-done n cs c k t j u inv h d v a =
+    constraint-next n (take c cs) t j u inv (omega (arith, length-take c cs)) d v
+    (subst (λ x. Changes (constraintRule n x) u v) (sym (getD-take c cs j d h)) a)

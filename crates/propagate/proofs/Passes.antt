@@ -1,15 +1,14 @@
 -- Laws of a pass over the whole arrays and over the groups of a model, and of the passes made. Assumes nothing.
 use mathlib.Core.Path.{_≡_, refl, sym, ap, ap₂, _∙_, subst}
 use Prim.Native.Nat.{ℕ, zero, suc, _+_, _-_, _*_, _≤_, _<_}
-use native.Mathlib.Nat.{sub-zero, mul-le-mul-right}
+use native.Mathlib.Nat.{le-trans, sub-zero, mul-le-mul-right}
 use native.Mathlib.Numerals.{add-one}
 use native.Mathlib.Omega.{arith}
-use native.Mathlib.Decide.{decLt}
-use mathlib.Core.Bool.{Bool, true, false, cond, not, _&&_, _||_}
+use mathlib.Core.Bool.{Bool, true, false, cond, _&&_}
 use mathlib.Core.List.{List, [], _∷_, _++_, map}
-use lib.Dec.{T, eqb, leb, leb→le, le→leb, ltb→lt}
-use lib.ListN.{length, getD, take, drop, length-take, take-append-drop, List·getD-append, List·getD-eq-default}
-use lib.Seq.{take-at, length-take-le, getD-take}
+use lib.Dec.{T}
+use lib.ListN.{length, take, drop, take-append-drop, List·getD-append}
+use lib.Seq.{take-at, length-take-le}
 use Rattle.model.specs.declared.Literal.{Literal}
 use Rattle.model.specs.declared.Literal.the-variants.{Pos, Neg}
 use Rattle.model.specs.declared.Group.{Group}
@@ -21,11 +20,12 @@ use Rattle.model.specs.Limits.{limits}
 use Rattle.model.specs.Words.{full}
 use Rattle.model.specs.Clauses.{memberCount, memberClauses, ofGroup, groupsOf, clausesOf}
 use Rattle.model.specs.Model.{zeroGroup, groupAt, withTable, tableOf, constraintsOf, codeInRange, constraintInRange, inRange}
-use Rattle.model.specs.Propagate.{groupRule, groupRuleAt, falseIn, allFalse, fixedWith, possibleWithout, madeTrue, literalRule, run, clauseRules, clauseRule, constraintRule, rules, pass, consistent, sameTable, Outcome, contradiction, fixpoint, afterPass, iterate, outcome, refusedPropagation, propagatedAs, propagated, isFixpoint}
-use Rattle.model.proofs.Lists.{T-true, true-T, All, all-append, all-map, every-getD, and-left, and-right, and-both, place-append, place-length}
-use Rattle.propagation_laws.proofs.Ranges.{constraint-code, ModelRange, model-range}
-use Rattle.propagate.specs.Flat.{zipped, Whole, Acts, settled}
-use Rattle.propagate.proofs.Members.{memberBelow, members-below}
+use Rattle.model.specs.Propagate.{groupRule, groupRuleAt, falseIn, allFalse, fixedWith, possibleWithout, madeTrue, literalRule, run, clauseRules, clauseRule, constraintRule, rules, pass, consistent, sameTable, Outcome, contradiction, fixpoint, afterPass, iterate, outcome, refusedPropagation, propagatedAs, propagated, isFixpoint, unsettledOr}
+use Rattle.model.specs.Assignment.{variable}
+use Rattle.model.proofs.Lists.{T-true, true-T, between-le, le-between, All, all-append, all-map, all-imp, all-every, every-all, and-left, and-right, and-both, place-append, place-length}
+use Rattle.model.proofs.Codes.{by-entrant, members-below}
+use Rattle.propagation_laws.proofs.Ranges.{constraint-code, groups-in, member-below, InRange, in-range}
+use Rattle.propagate.specs.Flat.{Whole, Changes}
 
 -- ---- the rules of a pass, on all places
 
@@ -38,13 +38,13 @@ unfolding groupRuleAt
 groups-length a zero t = refl
 groups-length a (suc k) t = groups-length (suc a) k (groupRuleAt a t) ∙ place-length (a - 1) groupRule t
 
-pub pass-made : (n s : ℕ) (cs : List Constraint) (f p l h f₁ p₁ l₁ h₁ f₂ p₂ : List ℕ) → Whole (zipped f p l h)
-    → zipped f₁ p₁ l₁ h₁ ≡ run (map groupRuleAt (range 1 s)) (zipped f p l h) → Acts (run (map (constraintRule n) cs)) f₁ p₁ f₂ p₂
-    → Whole (zipped f₂ p₂ l₁ h₁) × (zipped f₂ p₂ l₁ h₁ ≡ run (rules n s cs) (zipped f p l h))
+-- t, after the groups' rules u, and after the constraints' v
+pub pass-made : (n s : ℕ) (cs : List Constraint) (t u v : List Group) → Whole t → u ≡ run (map groupRuleAt (range 1 s)) t
+    → Changes (run (map (constraintRule n) cs)) u v → Whole v × (v ≡ run (rules n s cs) t)
 unfolding rules
-pass-made n s cs f p l h f₁ p₁ l₁ h₁ f₂ p₂ w e a =
-    let b = a l₁ h₁ (ap length e ∙ groups-length 1 s (zipped f p l h) ∙ w) in
-    (b .0, b .1 ∙ ap (run (map (constraintRule n) cs)) e ∙ sym (run-append (map groupRuleAt (range 1 s)) (map (constraintRule n) cs) (zipped f p l h)))
+pass-made n s cs t u v w e a =
+    let b = a (ap length e ∙ groups-length 1 s t ∙ w) in
+    (b .0, b .1 ∙ ap (run (map (constraintRule n) cs)) e ∙ sym (run-append (map groupRuleAt (range 1 s)) (map (constraintRule n) cs) t))
 
 -- ---- a rule of the first s places leaves what follows them
 
@@ -119,70 +119,38 @@ module _ (s : ℕ) where
 -- ---- an in-range constraint names the first s places
 
 module _ (s : ℕ) (some : 1 ≤ s) (c : Constraint) (r : T (constraintInRange s c)) where
-  ids : List ℕ
-  ids = c .groups
+  abbrev Below : Literal → Type 0
+  Below l = variable l < memberCount (c .code) (c .count)
 
-  mc : ℕ
-  mc = memberCount (c .code) (c .count)
-
-  member-inside : (m : ℕ) → m < mc → getD ids m 0 - 1 < s
-  unfolding constraintInRange groupsOf ids mc
-  member-inside m h = go (decLt m (length ids))
-    where
-      ok : T (every (between 1 s) (take mc ids))
-      ok = and-right (codeInRange (c .code) (c .count)) (every (between 1 s) (take mc ids))
-          (and-left (codeInRange (c .code) (c .count) && every (between 1 s) (take mc ids)) (distinct (take mc ids)) r)
-
-      go : Dec (m < length ids) → getD ids m 0 - 1 < s
-      go (yes l) =
-          let x = getD (take mc ids) m 0 in
-          let t = every-getD (between 1 s) (take mc ids) 0 m ok (omega (arith, length-take mc ids)) in
-          omega (arith, getD-take mc ids m 0 h, leb→le x s (and-right (leb 1 x) (leb x s) t))
-      go (no f) =
-          let l : length ids ≤ m = omega arith in
-          omega (arith, List·getD-eq-default ids 0 l)
-
-  literal-inside : (l : Literal) → T (memberBelow mc l) → Inside s (ofGroup ids l)
+  literal-inside : (l : Literal) → Below l → Inside s (ofGroup (c .groups) l)
   unfolding ofGroup
-  literal-inside (Pos m) t = member-inside m (ltb→lt m mc t)
-  literal-inside (Neg m) t = member-inside m (ltb→lt m mc t)
-
-  clauses-inside : (cs : List (List Literal)) → T (every (every (memberBelow mc)) cs) → All (All (Inside s)) (map (map (ofGroup ids)) cs)
-  clauses-inside [] t = tt
-  clauses-inside (x ∷ cs) t =
-      let B = memberBelow mc in
-      (all-map (Inside s) (ofGroup ids) x (literals x (and-left (every B x) (every (every B) cs) t)), clauses-inside cs (and-right (every B x) (every (every B) cs) t))
-    where
-      literals : (ls : List Literal) → T (every (memberBelow mc) ls) → All (λ l. Inside s (ofGroup ids l)) ls
-      literals [] u = tt
-      literals (l ∷ ls) u =
-          (literal-inside l (and-left (memberBelow mc l) (every (memberBelow mc) ls) u), literals ls (and-right (memberBelow mc l) (every (memberBelow mc) ls) u))
+  literal-inside (Pos i) h = omega (arith, member-below s c r i h)
+  literal-inside (Neg i) h = omega (arith, member-below s c r i h)
 
   in-range-local : (n : ℕ) → Local s (constraintRule n c)
-  unfolding clausesOf ids mc
+  unfolding clausesOf
   in-range-local n =
-      local-constraint s n c (clauses-inside (memberClauses (c .code) (c .count)) (members-below (c .count) (c .code) (code-is (constraint-code s c r))))
-    where
-      code-is : T (codeInRange (c .code) (c .count)) → T (between 1 6 (c .code))
-      code-is t = unfold codeInRange in and-left (between 1 6 (c .code)) (not (eqb (c .code) 6) || between 2 (limits .members - 1) (c .count)) t
+      let cs = memberClauses (c .code) (c .count) in
+      local-constraint s n c
+      (all-map (All (Inside s)) (map (ofGroup (c .groups))) cs
+      (all-imp (All Below) (λ ls. All (Inside s) (map (ofGroup (c .groups)) ls))
+      (λ ls h. all-map (Inside s) (ofGroup (c .groups)) ls (all-imp Below (λ l. Inside s (ofGroup (c .groups) l)) literal-inside ls h))
+      cs (members-below (c .code) (c .count) (by-entrant (c .code) (c .count) (constraint-code s c r)))))
 
 -- ---- a pass of the model is that of the arrays, at the first s places
 
 module _ (m : Model) (t : T (inRange m)) where
-  R : ModelRange m
-  R = model-range m t
-
-  pub s-some : 1 ≤ m .s
-  s-some = leb→le 1 (m .s) (and-left (leb 1 (m .s)) (leb (m .s) (limits .groups)) (R .groups))
+  R : InRange m
+  R = in-range m t
 
   pub s-few : m .s ≤ limits .groups
-  s-few = leb→le (m .s) (limits .groups) (and-right (leb 1 (m .s)) (leb (m .s) (limits .groups)) (R .groups))
+  s-few = R .groupCount
 
   pub n-few : m .n ≤ limits .entrants
-  n-few = leb→le (m .n) (limits .entrants) (and-right (leb 1 (m .n)) (leb (m .n) (limits .entrants)) (R .entrants))
+  n-few = R .entrants
 
   pub c-few : m .c ≤ limits .constraints
-  c-few = leb→le (m .c) (limits .constraints) (R .constraints)
+  c-few = R .constraintCount
 
   groups-local : (a k : ℕ) → 1 ≤ a → a + k ≤ m .s + 1 → All (Local (m .s)) (map groupRuleAt (range a k))
   unfolding groupRuleAt
@@ -194,13 +162,13 @@ module _ (m : Model) (t : T (inRange m)) where
   constraints-local (c ∷ cs) u =
       let a = constraintInRange (m .s) c in
       let b = every (constraintInRange (m .s)) cs in
-      (in-range-local (m .s) s-some c (and-left a b u) (m .n), constraints-local cs (and-right a b u))
+      (in-range-local (m .s) (R .some-group) c (and-left a b u) (m .n), constraints-local cs (and-right a b u))
 
   pass-local : Local (m .s) (pass m)
   unfolding pass rules
   pass-local = local-run (m .s) (rules (m .n) (m .s) (constraintsOf m))
       (all-append (Local (m .s)) (map groupRuleAt (range 1 (m .s))) (map (constraintRule (m .n)) (constraintsOf m)) (groups-local 1 (m .s) (omega arith) (omega arith))
-      (constraints-local (constraintsOf m) (R .lines)))
+      (constraints-local (constraintsOf m) (R .constraints)))
 
   pub pass-first : (a b : List Group) → Whole a → b ≡ run (rules (m .n) (m .s) (take (m .c) (m .constraints))) a → take (m .s) b ≡ pass m (take (m .s) a)
   unfolding pass constraintsOf
@@ -211,36 +179,24 @@ module _ (m : Model) (t : T (inRange m)) where
       ap (take (m .s)) (e ∙ ap (pass m) (sym (take-append-drop (m .s) a)) ∙ l .0) ∙ take-at (pass m x) y (m .s) (l .1)
 
   -- what the code asks of the constraints
-  pub lines-stand : T (every (constraintInRange (limits .groups)) (take (m .c) (m .constraints)))
+  pub constraints-stand : T (every (constraintInRange (limits .groups)) (take (m .c) (m .constraints)))
   unfolding constraintsOf
-  lines-stand = go (take (m .c) (m .constraints)) (R .lines)
+  constraints-stand =
+      all-every (constraintInRange (limits .groups)) (constraintsOf m)
+      (all-imp (λ c. T (constraintInRange (m .s) c)) (λ c. T (constraintInRange (limits .groups) c)) wider (constraintsOf m)
+      (every-all (constraintInRange (m .s)) (constraintsOf m) (R .constraints)))
     where
-      wide : (gs : List ℕ) → T (every (between 1 (m .s)) gs) → T (every (between 1 (limits .groups)) gs)
-      wide [] u = tt
-      wide (g ∷ gs) u =
-          let a = between 1 (m .s) g in
-          let b = every (between 1 (m .s)) gs in
-          let v = and-left a b u in
-          and-both (between 1 (limits .groups) g) (every (between 1 (limits .groups)) gs)
-          (and-both (leb 1 g) (leb g (limits .groups)) (and-left (leb 1 g) (leb g (m .s)) v)
-          (le→leb g (limits .groups) (omega (arith, s-few, leb→le g (m .s) (and-right (leb 1 g) (leb g (m .s)) v)))))
-          (wide gs (and-right a b u))
-
-      one : (c : Constraint) → T (constraintInRange (m .s) c) → T (constraintInRange (limits .groups) c)
-      one c u = unfold constraintInRange in (
+      wider : (c : Constraint) → T (constraintInRange (m .s) c) → T (constraintInRange (limits .groups) c)
+      wider c u = unfold constraintInRange in (
           let k = codeInRange (c .code) (c .count) in
           let a = every (between 1 (m .s)) (groupsOf c) in
+          let b = every (between 1 (limits .groups)) (groupsOf c) in
           let d = distinct (groupsOf c) in
-          let ka = and-left (k && a) d u in
-          and-both (k && every (between 1 (limits .groups)) (groupsOf c)) d
-          (and-both k (every (between 1 (limits .groups)) (groupsOf c)) (and-left k a ka) (wide (groupsOf c) (and-right k a ka))) (and-right (k && a) d u))
-
-      go : (cs : List Constraint) → T (every (constraintInRange (m .s)) cs) → T (every (constraintInRange (limits .groups)) cs)
-      go [] u = tt
-      go (c ∷ cs) u =
-          let a = constraintInRange (m .s) c in
-          let b = every (constraintInRange (m .s)) cs in
-          and-both (constraintInRange (limits .groups) c) (every (constraintInRange (limits .groups)) cs) (one c (and-left a b u)) (go cs (and-right a b u))
+          let in-groups : T b = all-every (between 1 (limits .groups)) (groupsOf c)
+          (all-imp (λ g. T (between 1 (m .s) g)) (λ g. T (between 1 (limits .groups) g))
+          (λ g h. let l = between-le 1 (m .s) g h in le-between 1 (limits .groups) g (l .0) (le-trans (l .1) s-few)) (groupsOf c)
+          (every-all (between 1 (m .s)) (groupsOf c) (groups-in (m .s) c u))) in
+          and-both (k && b) d (and-both k b (constraint-code (m .s) c u) in-groups) (and-right (k && a) d u))
 
 -- ---- passes until one changes nothing: k are made, the table is t
 
@@ -327,17 +283,14 @@ answered k m t gs e = rw e
 -- ---- one pass, as the code makes it: a are the groups of the model in the arrays, b the groups after it
 
 module _ (m : Model) (r : Bool) (e : r ≡ inRange m) where
-  pub out-of-range : r ≡ false → inRange m ≡ false
-  out-of-range f = sym e ∙ f
+  pub range-false : r ≡ false → inRange m ≡ false
+  range-false f = sym e ∙ f
 
-  pub in-range : r ≡ true → T (inRange m)
-  in-range f = true-T (inRange m) (sym e ∙ f)
+  pub range-true : r ≡ true → T (inRange m)
+  range-true f = true-T (inRange m) (sym e ∙ f)
 
 pub whole-read : (a gs : List Group) → Whole gs → a ≡ gs → Whole a
 whole-read a gs w e = ap length e ∙ w
-
-pub settled-out : (m : Model) → inRange m ≡ false → false ≡ settled m
-settled-out m e = rw e
 
 module _ (m : Model) (t : T (inRange m)) (a b : List Group) (w : Whole a) (e : a ≡ m .groups)
     (p : b ≡ run (rules (m .n) (m .s) (take (m .c) (m .constraints))) a) (r : Bool) (c : r ≡ consistent (take (m .s) b)) where
@@ -348,15 +301,30 @@ module _ (m : Model) (t : T (inRange m)) (a b : List Group) (w : Whole a) (e : a
   next-is : take (m .s) b ≡ pass m (tableOf m)
   next-is = pass-first m t a b w p ∙ ap (pass m) now-is
 
-  settled-is : settled m ≡ (consistent (take (m .s) b) && sameTable (take (m .s) b) (take (m .s) a))
+  fixpoint-is : isFixpoint m ≡ (consistent (take (m .s) b) && sameTable (take (m .s) b) (take (m .s) a))
   unfolding isFixpoint
-  settled-is = rw (T-true (inRange m) t) (sym (ap₂ (λ x y. consistent x && sameTable x y) next-is now-is))
+  fixpoint-is = sym (ap₂ (λ x y. consistent x && sameTable x y) next-is now-is)
 
-  pub settled-contradicts : r ≡ false → false ≡ settled m
-  settled-contradicts f = sym (settled-is ∙ rw (sym c ∙ f))
+  pub contradicts : r ≡ false → false ≡ isFixpoint m
+  contradicts f = sym (fixpoint-is ∙ rw (sym c ∙ f))
 
-  pub settled-same : r ≡ true → (q : Bool) → q ≡ sameTable (take (m .s) b) (take (m .s) a) → q ≡ settled m
-  settled-same f q d = d ∙ sym (settled-is ∙ rw (sym c ∙ f))
+  pub compares : r ≡ true → (q : Bool) → q ≡ sameTable (take (m .s) b) (take (m .s) a) → q ≡ isFixpoint m
+  compares f q d = d ∙ sym (fixpoint-is ∙ rw (sym c ∙ f))
+
+-- refusals 20 and 22
+
+pub unsettled-20 : (m : Model) → inRange m ≡ false → 20 ≡ unsettledOr m 0
+unfolding unsettledOr
+unsettled-20 m e = rw e
+
+module _ (m : Model) (t : T (inRange m)) (r : Bool) (e : r ≡ isFixpoint m) where
+  pub unsettled-22 : r ≡ false → 22 ≡ unsettledOr m 0
+  unfolding unsettledOr
+  unsettled-22 f = rw (T-true (inRange m) t, sym e ∙ f)
+
+  pub unsettled-0 : r ≡ true → 0 ≡ unsettledOr m 0
+  unfolding unsettledOr
+  unsettled-0 f = rw (T-true (inRange m) t, sym e ∙ f)
 
 -- ---- the loop of passes: both parts of the contract
 
@@ -372,10 +340,10 @@ refused-20 m f o e = contract m o (e ∙ sym (propagated-out m f))
 pub first-left : (m : Model) (a : List Group) → a ≡ m .groups → outcome m ≡ Left m 0 (take (m .s) a)
 first-left m a e = left-start m ∙ ap (Left m 0) (unfold tableOf in sym (ap (take (m .s)) e))
 
-pub fuel-fits : (m : Model) → T (inRange m) → 2 * m .s * m .n ≤ 16384
+pub fuel-fits : (m : Model) → T (inRange m) → 2 * m .s * m .n ≤ 2 * limits .groups * limits .entrants
 fuel-fits m t =
-    let a : 2 * m .s ≤ 512 = omega (arith, s-few m t) in
-    let b : 2 * m .s * m .n ≤ 512 * m .n = mul-le-mul-right (m .n) a in
+    let a : 2 * m .s ≤ 2 * limits .groups = omega (arith, s-few m t) in
+    let b : 2 * m .s * m .n ≤ 2 * limits .groups * m .n = mul-le-mul-right (m .n) a in
     omega (arith, n-few m t)
 
 module _ (m : Model) (t : T (inRange m)) (k : ℕ) (a : List Group) (inv : outcome m ≡ Left m k (take (m .s) a)) where

@@ -1,18 +1,15 @@
 -- The table of groups as four arrays, which is how the code keeps it, and what a rule does to them.
 use Prim.Native.Nat.{ℕ, _≤_, _<_}
 use mathlib.Core.Path.{_≡_}
-use mathlib.Core.Bool.{Bool, _&&_}
 use mathlib.Core.List.{List, [], _∷_}
 use lib.ListN.{length, getD}
 use Rattle.model.specs.declared.Literal.{Literal}
 use Rattle.model.specs.declared.Literal.the-variants.{Pos, Neg}
 use Rattle.model.specs.declared.Group.{Group}
 use Rattle.model.specs.declared.Constraint.{Constraint}
-use Rattle.model.specs.declared.Model.{Model}
 use Rattle.model.specs.Limits.{limits}
 use Rattle.model.specs.Clauses.{memberClauses}
-use Rattle.model.specs.Model.{inRange}
-use Rattle.model.specs.Propagate.{isFixpoint, allFalse}
+use Rattle.model.specs.Propagate.{allFalse}
 use Rattle.propagate.specs.declared.Table.{Table}
 
 abbrev pub group : ℕ → ℕ → ℕ → ℕ → Group
@@ -33,9 +30,13 @@ groupsIn t = zipped (t .fixed) (t .possible) (t .low) (t .high)
 abbrev pub Whole : List Group → Type 0
 Whole t = length t ≡ limits .groups
 
--- the sets go from one pair of arrays to another as the rule says, whatever the limits low and high are
+-- the groups t become u as the rule says
+abbrev pub Changes : (List Group → List Group) → List Group → List Group → Type 0
+Changes r t u = Whole t → Whole u × (u ≡ r t)
+
+-- of a rule of the sets alone: from one pair of arrays to another, whatever the limits low and high are
 abbrev pub Acts : (List Group → List Group) → List ℕ → List ℕ → List ℕ → List ℕ → Type 0
-Acts r f p f₁ p₁ = (l h : List ℕ) → Whole (zipped f p l h) → Whole (zipped f₁ p₁ l h) × (zipped f₁ p₁ l h ≡ r (zipped f p l h))
+Acts r f p f₁ p₁ = (l h : List ℕ) → Changes r (zipped f p l h) (zipped f₁ p₁ l h)
 
 -- the word is the entrants of w for whom the literals are settled false
 abbrev pub AllFalse : ℕ → List ℕ → List ℕ → ℕ → List Literal → Type 0
@@ -56,9 +57,5 @@ clauseOf code k j = getD (memberClauses code k) j []
 abbrev pub ClauseStands : List ℕ → List Literal → Type 0
 ClauseStands ids c = (i : ℕ) → i < length c → LiteralStands ids (getD c i (Pos 0))
 
-abbrev pub line : ℕ → ℕ → List ℕ → Constraint
-line code k ids = record { code = code; count = k; groups = ids }
-
--- what the block writer and the closing ask: a model out of range has no fixpoint to be at
-abbrev pub settled : Model → Bool
-settled m = inRange m && isFixpoint m
+abbrev pub constraintOf : ℕ → ℕ → List ℕ → Constraint
+constraintOf code k ids = record { code = code; count = k; groups = ids }

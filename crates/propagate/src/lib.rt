@@ -11,11 +11,11 @@ ghost use lib.Seq.{slice};
 ghost use Rattle.model.specs.declared.Literal.the-variants.{Pos};
 ghost use Rattle.model.specs.Limits.{limits};
 ghost use Rattle.model.specs.Lists.{every, range};
-ghost use Rattle.model.specs.Words.{full, less, size};
-ghost use Rattle.model.specs.Clauses.{ofGroup};
-ghost use Rattle.model.specs.Model.{constraintInRange};
-ghost use Rattle.model.specs.Propagate.{groupRule, groupRuleAt, madeTrue, literalRule, clauseRule, constraintRule, run, rules, groupConsistent, consistent, sameGroup, sameTable, fixpoint, refusedPropagation, propagatedAs, propagated};
-ghost use Rattle.propagate.specs.Flat.{zipped, groupsIn, Whole, Acts, AllFalse, Stands, LiteralStands, clauseOf, ClauseStands, line, settled};
+ghost use Rattle.model.specs.Words.{less, size};
+ghost use Rattle.model.specs.Clauses.{ofGroup, clausesOf};
+ghost use Rattle.model.specs.Model.{constraintInRange, inRange};
+ghost use Rattle.model.specs.Propagate.{groupRule, groupRuleAt, madeTrue, literalRule, clauseRule, constraintRule, run, rules, groupConsistent, consistent, sameGroup, sameTable, fixpoint, refusedPropagation, propagatedAs, propagated, isFixpoint, unsettledOr};
+ghost use Rattle.propagate.specs.Flat.{zipped, groupsIn, Whole, Changes, Acts, AllFalse, Stands, LiteralStands, clauseOf, ClauseStands, constraintOf};
 use model::Constraint;
 use model::Group;
 use model::Literal;
@@ -130,14 +130,6 @@ fn place(ids: &[u32; Model::MEMBERS], m: u32) -> usize
     ids[i] as usize - 1
 }
 
-// Entrants 1 to n.
-fn entrants(n: u32) -> u64
-    requires { ⌜ n ≤ limits .entrants ⌝ }
-    ensures { λ r. ⌜ r ≡ full n ⌝ }
-{
-    (1 << n) - 1
-}
-
 fn without(a: u64, b: u64) -> u64
     ensures { λ r. ⌜ r ≡ less a b ⌝ }
 {
@@ -230,7 +222,7 @@ fn literal_rule(
     requires { ⌜ ClauseStands (now ids) (clauseOf code k j) × ((n ≤ limits .entrants) × ((i < count) × (count ≡ length (clauseOf code k j)))) ⌝ }
     ensures { λ r. ⌜ Acts (literalRule n (ofGroup (now (ids .entry)) (getD (clauseOf code k j) i (Pos 0))) (take i (map (ofGroup (now (ids .entry))) (clauseOf code k j)) ++ drop (i + 1) (map (ofGroup (now (ids .entry))) (clauseOf code k j)))) (now (fixed .entry)) (now (possible .entry)) (now (fixed .exit)) (now (possible .exit)) ⌝ }
 {
-    let before = literals_false(fixed, possible, ids, code, k, j, 0, i, entrants(n));
+    let before = literals_false(fixed, possible, ids, code, k, j, 0, i, model::entrants(n));
     let w = literals_false(fixed, possible, ids, code, k, j, i + 1, count, before);
     let l = constraint::literal_at(code, k, j, i);
     make_true(fixed, possible, ids, l, w);
@@ -258,7 +250,7 @@ fn clause_rule(
 }
 
 // The clauses of a constraint in order.
-fn constraint_rule(
+fn clause_rules(
     fixed: &mut [u64; Model::GROUPS],
     possible: &mut [u64; Model::GROUPS],
     ids: [u32; Model::MEMBERS],
@@ -266,8 +258,8 @@ fn constraint_rule(
     code: u32,
     k: u32,
 )
-    requires { ⌜ T (constraintInRange (limits .groups) (line code k ids)) × (n ≤ limits .entrants) ⌝ }
-    ensures { λ r. ⌜ Acts (constraintRule n (line code k ids)) (now (fixed .entry)) (now (possible .entry)) (now (fixed .exit)) (now (possible .exit)) ⌝ }
+    requires { ⌜ T (constraintInRange (limits .groups) (constraintOf code k ids)) × (n ≤ limits .entrants) ⌝ }
+    ensures { λ r. ⌜ Acts (run (map (clauseRule n) (clausesOf (constraintOf code k ids)))) (now (fixed .entry)) (now (possible .entry)) (now (fixed .exit)) (now (possible .exit)) ⌝ }
 {
     let count = constraint::clause_count(code, k);
     let mut j: usize = 0;
@@ -277,22 +269,41 @@ fn constraint_rule(
     }
 }
 
+// A constraint: its clauses, which leave the limits as they are.
+fn constraint_rule(
+    fixed: &mut [u64; Model::GROUPS],
+    possible: &mut [u64; Model::GROUPS],
+    low: &mut [u32; Model::GROUPS],
+    high: &mut [u32; Model::GROUPS],
+    ids: [u32; Model::MEMBERS],
+    n: u32,
+    code: u32,
+    k: u32,
+)
+    requires { ⌜ T (constraintInRange (limits .groups) (constraintOf code k ids)) × (n ≤ limits .entrants) ⌝ }
+    ensures { λ r. ⌜ Changes (constraintRule n (constraintOf code k ids)) (zipped (now (fixed .entry)) (now (possible .entry)) (now (low .entry)) (now (high .entry))) (zipped (now (fixed .exit)) (now (possible .exit)) (now (low .exit)) (now (high .exit))) ⌝ }
+{
+    clause_rules(fixed, possible, ids, n, code, k);
+}
+
 // Constraints 1 to c in order.
 fn constraint_rules(
     fixed: &mut [u64; Model::GROUPS],
     possible: &mut [u64; Model::GROUPS],
+    low: &mut [u32; Model::GROUPS],
+    high: &mut [u32; Model::GROUPS],
     constraints: [Constraint; Model::CONSTRAINTS],
     n: u32,
     c: usize,
 )
     requires { ⌜ (c ≤ limits .constraints) × (T (every (constraintInRange (limits .groups)) (take c constraints)) × (n ≤ limits .entrants)) ⌝ }
-    ensures { λ r. ⌜ Acts (run (map (constraintRule n) (take c constraints))) (now (fixed .entry)) (now (possible .entry)) (now (fixed .exit)) (now (possible .exit)) ⌝ }
+    ensures { λ r. ⌜ Changes (run (map (constraintRule n) (take c constraints))) (zipped (now (fixed .entry)) (now (possible .entry)) (now (low .entry)) (now (high .entry))) (zipped (now (fixed .exit)) (now (possible .exit)) (now (low .exit)) (now (high .exit))) ⌝ }
 {
     let mut j: usize = 0;
     while j < c {
         let l = constraints[j];
         let ids = l.groups;
-        constraint_rule(fixed, possible, ids, n, l.code, l.count);
+        constraint_rule(fixed, possible, low, high, ids, n, l.code, l.count);
         j += 1;
     }
 }
@@ -315,7 +326,15 @@ fn passed(
     let mut low = t.low;
     let mut high = t.high;
     group_rules(&mut fixed, &mut possible, &mut low, &mut high, s);
-    constraint_rules(&mut fixed, &mut possible, constraints, n, c);
+    constraint_rules(
+        &mut fixed,
+        &mut possible,
+        &mut low,
+        &mut high,
+        constraints,
+        n,
+        c,
+    );
     Table {
         fixed,
         possible,
@@ -497,13 +516,11 @@ pub fn propagate(m: Model) -> Propagated
     refused(21, m)
 }
 
-// Whether a pass would change nothing: false for a model out of range too, so that the equation holds of every model.
-pub fn is_fixpoint(m: Model) -> bool
-    ensures { λ r. ⌜ r ≡ settled m ⌝ }
+// Whether a pass would change nothing, and end in no 21.
+fn is_fixpoint(m: Model) -> bool
+    requires { ⌜ T (inRange m) ⌝ }
+    ensures { λ r. ⌜ r ≡ isFixpoint m ⌝ }
 {
-    if !m.in_range() {
-        return false;
-    }
     let s = m.s as usize;
     let constraints = m.constraints;
     let groups = m.groups;
@@ -513,4 +530,17 @@ pub fn is_fixpoint(m: Model) -> bool
         return false;
     }
     same_table(u, t, s)
+}
+
+// Refusals 20 and 22, or 0: what an entry that asks for a settled model judges first.
+pub fn unsettled(m: Model) -> u32
+    ensures { λ r. ⌜ r ≡ unsettledOr m 0 ⌝ }
+{
+    if !m.in_range() {
+        return 20;
+    }
+    if !is_fixpoint(m) {
+        return 22;
+    }
+    0
 }

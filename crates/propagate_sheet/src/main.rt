@@ -8,8 +8,10 @@ use model::Constraint;
 use model::Group;
 use model::Model;
 
-// A line has at most 4 + 32 fields of four columns, and a newline.
-const LINE: usize = 160;
+// A group's line has the most fields. A field has four columns, and a newline follows.
+const FIELDS: usize = 4 + Model::ENTRANTS as usize;
+
+const LINE: usize = 4 * FIELDS + 1;
 
 // The digit of v at a power of ten, or a space where v has none there.
 fn thousands(v: u32) -> u8 {
@@ -35,7 +37,7 @@ fn tens(v: u32) -> u8 {
 
 // Field i of a line.
 fn put_field(line: &mut [u8; LINE], i: usize, v: u32) {
-    if i < 39 {
+    if i < FIELDS {
         let at = i * 4;
         line[at] = thousands(v);
         line[at + 1] = hundreds(v);
@@ -47,7 +49,7 @@ fn put_field(line: &mut [u8; LINE], i: usize, v: u32) {
 // Writes the first `fields` fields of a line and a newline.
 fn write_line(line: [u8; LINE], fields: usize) {
     let mut out = line;
-    if fields < 40 {
+    if fields <= FIELDS {
         let end = fields * 4;
         out[end] = 10;
         io::write_all(STDOUT_FILENO, &out[..end + 1]);
@@ -65,7 +67,7 @@ fn write_head(m: Model) {
 
 // 2 fixed, 1 open, 0 barred.
 fn mark(g: Group, e: u32) -> u32 {
-    if 64 <= e {
+    if Model::WORD <= e {
         return 0;
     }
     if g.fixed >> e & 1 == 1 {

@@ -4,11 +4,11 @@ use Prim.Native.Nat.{ℕ, zero, suc, _+_, _≤_, _<_}
 use native.Mathlib.Nat.{not-suc-le-zero}
 use native.Mathlib.Omega.{arith}
 use mathlib.Core.Bool.{Bool, true, false, _&&_}
-use mathlib.Core.List.{List, [], _∷_, List·Permᴰ, Permᴰ·symm}
+use mathlib.Core.List.{List, [], _∷_}
 use lib.Dec.{T}
 use Rattle.model.specs.Lists.{every}
 use Rattle.model.specs.Propagate.{run, Outcome, contradiction, fixpoint, afterPass, iterate}
-use Rattle.model.proofs.Lists.{T-true, All, and-left, and-right, and-both, every-all, all-every, all-perm}
+use Rattle.model.proofs.Lists.{T-true, All, and-left, and-right, and-both, every-all, all-every}
 
 -- what propagation needs of tables: an order, a test that wider tables pass too, a test of equality, a measure that falls
 pub record Frame (X : Type 0) : Type 1 where
@@ -226,13 +226,3 @@ module _ {X : Type 0} (F : Frame X) where
   narrower-both contradiction (fixpoint k y) a b = b
   narrower-both (fixpoint j x) contradiction a b = a
   narrower-both (fixpoint j x) (fixpoint k y) a b = F .w-antisym x y a b
-
-  pub any-order : (rs ss : List (X → X)) → All Rule rs → List·Permᴰ rs ss → (fuel j k : ℕ) (x : X) → F .measure x < fuel
-      → SameTable (iterate (F .ok) (F .same) (run rs) fuel j x) (iterate (F .ok) (F .same) (run ss) fuel k x)
-  any-order rs ss h p fuel j k x m =
-      let o = iterate (F .ok) (F .same) (run rs) fuel j x in
-      let q = iterate (F .ok) (F .same) (run ss) fuel k x in
-      let a = iterate-answer rs h fuel j x m in
-      let b = iterate-answer ss (all-perm Rule p h) fuel k x m in
-      narrower-both o q (narrower rs ss (λ u. all-perm (λ r. r u ≡ u) p) x x o q (F .w-refl x) a b)
-      (narrower ss rs (λ u. all-perm (λ r. r u ≡ u) (Permᴰ·symm p)) x x q o (F .w-refl x) b a)

@@ -190,7 +190,7 @@ steps-reduce = (
 
 -- ---- a group that the rule leaves as it is
 
-pub record Calm (u : Group) : Type 0 where
+pub record SettledGroup (u : Group) : Type 0 where
   pub fits : Sub (u .fixed) (u .possible)
   pub least : size (u .fixed) ≤ u .low
   pub order : u .low ≤ u .high
@@ -198,21 +198,21 @@ pub record Calm (u : Group) : Type 0 where
   pub full : size (u .fixed) ≡ u .high → u .possible ≡ u .fixed
   pub needed : size (u .possible) ≡ u .low → u .possible ≡ u .fixed
 
-cut-calm : (u : Group) → cut u ≡ u → size (u .fixed) ≡ u .high → Sub (u .possible) (u .fixed)
+cut-settled : (u : Group) → cut u ≡ u → size (u .fixed) ≡ u .high → Sub (u .possible) (u .fixed)
 unfolding cut
-cut-calm u e h =
+cut-settled u e h =
     let q : cond (eqb (size (u .fixed)) (u .high)) (bitAnd (u .possible) (u .fixed)) (u .possible) ≡ u .possible = ap (λ (g : Group). g .possible) e in
     subst (λ (w : ℕ). Sub w (u .fixed)) (rw (eq-eqb (size (u .fixed)) (u .high) h) at q) (sub-and-r (u .possible) (u .fixed))
 
-filled-calm : (u : Group) → filled u ≡ u → size (u .possible) ≡ u .low → Sub (u .possible) (u .fixed)
+filled-settled : (u : Group) → filled u ≡ u → size (u .possible) ≡ u .low → Sub (u .possible) (u .fixed)
 unfolding filled
-filled-calm u e h =
+filled-settled u e h =
     let q : cond (eqb (size (u .possible)) (u .low)) (bitOr (u .fixed) (u .possible)) (u .fixed) ≡ u .fixed = ap (λ (g : Group). g .fixed) e in
     subst (λ (w : ℕ). Sub (u .possible) w) (rw (eq-eqb (size (u .possible)) (u .low) h) at q) (sub-or-r (u .fixed) (u .possible))
 
-pub calm : (u : Group) → T (groupConsistent u) → groupRule u ≡ u → Calm u
+pub settled-group : (u : Group) → T (groupConsistent u) → groupRule u ≡ u → SettledGroup u
 unfolding groupRule limited
-calm u c e =
+settled-group u c e =
     let k = run-unchanged groupFrame steps steps-reduce u e in
     let s = sound u c in
     record {
@@ -220,13 +220,13 @@ calm u c e =
       least = omega (arith, ap (λ (g : Group). g .low) (k .0));
       order = s .order;
       most = omega (arith, ap (λ (g : Group). g .high) (k .0));
-      full = λ h. sub-antisym (cut-calm u (k .1 .0) h) (s .fits);
-      needed = λ h. sub-antisym (filled-calm u (k .1 .1 .0) h) (s .fits);
+      full = λ h. sub-antisym (cut-settled u (k .1 .0) h) (s .fits);
+      needed = λ h. sub-antisym (filled-settled u (k .1 .1 .0) h) (s .fits);
     }
 
 -- ---- what the rule keeps
 
-module _ (u : Group) (k : Calm u) where
+module _ (u : Group) (k : SettledGroup u) where
   limited-keeps : (x : Group) → Narrow u x → Narrow u (limited x)
   unfolding limited
   limited-keeps x w = record {
@@ -268,5 +268,5 @@ pub group-rule : Rule groupFrame groupRule
 unfolding groupRule
 group-rule = record {
   reduces = run-reduces groupFrame steps steps-reduce;
-  keeps = λ u x c e w. is-within u (groupRule x) (rule-keeps u (calm u c e) x (narrow u x w));
+  keeps = λ u x c e w. is-within u (groupRule x) (rule-keeps u (settled-group u c e) x (narrow u x w));
 }

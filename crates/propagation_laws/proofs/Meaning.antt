@@ -1,27 +1,29 @@
 -- Each code's meaning as sets is what its clauses say of every entrant, both ways, for every code. Assumes nothing.
 use mathlib.Core.Path.{_≡_, refl, sym, ap, ap₂, _∙_, subst}
 use mathlib.Core.Logic.{_↔_}
-use Prim.Native.Nat.{ℕ, zero, suc, _-_, _^_, _≤_, _<_}
+use Prim.Native.Nat.{ℕ, _+_, _-_, _^_, _≤_, _<_}
+use native.Mathlib.Nat.{le-trans}
 use native.Mathlib.Numerals.{add-one}
 use native.Mathlib.Omega.{arith}
 use native.Mathlib.Decide.{decLt}
 use mathlib.Core.Bool.{Bool, true, false, not, _&&_, _||_}
 use mathlib.Core.List.{List, [], _∷_, map, map-map}
-use lib.Dec.{T, leb, eqb, eqb→eq, eqb-refl, leb→le, lit≤}
+use lib.Dec.{T, eqb, eqb→eq, eqb-refl}
 use lib.Bits.{bitAnd, bitOr}
 use lib.ListN.{length, getD, take}
 use Rattle.model.specs.declared.Literal.{Literal}
 use Rattle.model.specs.declared.Literal.the-variants.{Pos, Neg}
 use Rattle.model.specs.declared.Constraint.{Constraint}
-use Rattle.model.specs.Lists.{every, any, range, between}
+use Rattle.model.specs.Lists.{every, any, range}
 use Rattle.model.specs.Words.{less, has}
-use Rattle.model.specs.Clauses.{memberCount, shortClauses, unionClauses, memberClauses, ofGroup, groupsOf, clausesOf}
+use Rattle.model.specs.Clauses.{byEntrant, memberCount, shortClauses, unionClauses, memberClauses, ofGroup, groupsOf, clausesOf}
 use Rattle.model.specs.Model.{codeInRange}
-use Rattle.model.proofs.Codes.{by-code}
+use Rattle.model.proofs.Codes.{by-code, by-entrant, member-bound, members-below}
 use Rattle.model.specs.Limits.{limits}
+use Rattle.model.specs.Assignment.{variable}
 use Rattle.model.specs.Solution.{union, meaning, setOf, constraintTrue}
-use Rattle.model.proofs.Lists.{and-left, and-right, any-append, every-map, any-map, every-ext, any-ext, take-places}
-use Rattle.model.proofs.Words.{has-zero, has-and, has-or, has-less, has-past, has-ext, has-sub, sub-has, inside-sub, sub-inside}
+use Rattle.model.proofs.Lists.{T-ext, and-left, and-right, any-append, every-map, any-map, every-ext, any-ext, any-none, any-all-ext, every-all-ext, every-range, range-every, take-places, All, all-of, all-imp}
+use Rattle.model.proofs.Words.{has-and, has-or, has-less, has-union, has-past, has-ext, has-sub, sub-has, inside-sub, sub-inside}
 
 -- ---- literals, clauses and constraints for one entrant: v says in which groups the entrant is
 
@@ -52,12 +54,23 @@ over-members v c =
     ∙ any-ext (λ l. literalFor v (ofGroup (c .groups) l)) (literalFor (λ i. v (getD (c .groups) i 0))) (of-group v (c .groups)) ls)
     (memberClauses (c .code) (c .count))
 
--- ---- the union
+-- ---- only the members count
 
-has-union : (e : ℕ) (ws : List ℕ) → has (union ws) e ≡ any (λ w. has w e) ws
-unfolding union
-has-union e [] = has-zero e
-has-union e (w ∷ ws) = has-or w (union ws) e ∙ ap (λ b. has w e || b) (has-union e ws)
+pub same-clauses : (v u : ℕ → Bool) (code k : ℕ) → T (byEntrant code) → ((i : ℕ) → i < memberCount code k → v i ≡ u i)
+    → clausesFor v (memberClauses code k) ≡ clausesFor u (memberClauses code k)
+unfolding clausesFor
+same-clauses v u code k t h =
+    every-all-ext (any (literalFor v)) (any (literalFor u)) (memberClauses code k)
+    (all-imp (All (λ l. variable l < memberCount code k)) (λ ls. any (literalFor v) ls ≡ any (literalFor u) ls)
+    (λ ls below. any-all-ext (literalFor v) (literalFor u) ls
+    (all-imp (λ l. variable l < memberCount code k) (λ l. literalFor v l ≡ literalFor u l) literal ls below))
+    (memberClauses code k) (members-below code k t))
+  where
+    literal : (l : Literal) → variable l < memberCount code k → literalFor v l ≡ literalFor u l
+    literal (Pos i) l = unfold literalFor in h i l
+    literal (Neg i) l = unfold literalFor in ap not (h i l)
+
+-- ---- the union
 
 -- "not any, or b", element by element
 none-or : (x : ℕ → Bool) (b : Bool) (l : List ℕ) → every (λ i. not (x i) || (b || false)) l ≡ (not (any x l) || b)
@@ -179,30 +192,27 @@ module _ (k : ℕ) (S : ℕ → ℕ) where
   code6 =
       let u : ℕ → Bool = λ e. any (λ i. has (S i) e) (range 1 k) in
       let is = is-set (union (map S (range 1 k))) (λ x y z. (y || (not x || false)) && (not y || x)) (λ y z. y) u (λ e. true) tt
-      (λ e. has-union e (map S (range 1 k)) ∙ any-map (λ w. has w e) S (range 1 k)) in
+      (λ e. has-union (map S (range 1 k)) e ∙ any-map (λ w. has w e) S (range 1 k)) in
       rw (add-one k) (
         (λ t e. subst T (sym (union-clauses k (λ i. has (S i) e))) (is .0 t e)),
         (λ h. is .1 (λ e. subst T (union-clauses k (λ i. has (S i) e)) (h e))),
       )
 
-  by-members : (code : ℕ) → T (between 1 6 code) → Says code
+  by-members : (code : ℕ) → T (byEntrant code) → Says code
   by-members = by-code Says code1 code2 code3 code4 code5 code6
 
 -- ---- a constraint
 
--- its list has its groups, as an array of 17 does
-unfoldable pub hasMembers : Constraint → Bool
-hasMembers c = leb (memberCount (c .code) (c .count)) (length (c .groups))
-
-pub meaning-clauses : (c : Constraint) → T (codeInRange (c .code) (c .count)) → T (hasMembers c) → (d : List ℕ)
+pub meaning-clauses : (c : Constraint) → T (codeInRange (c .code) (c .count)) → limits .members ≤ length (c .groups) → (d : List ℕ)
     → T (constraintTrue d c) ↔ ((e : ℕ) → T (clausesHold d c e))
-unfolding codeInRange hasMembers constraintTrue groupsOf clausesHold
-meaning-clauses c r h d =
+unfolding constraintTrue groupsOf clausesHold
+meaning-clauses c r wide d =
     let mc = memberCount (c .code) (c .count) in
     let S : ℕ → ℕ = λ i. setOf d (getD (c .groups) i 0) in
-    let is = by-members (c .count) S (c .code) (and-left (between 1 6 (c .code)) (not (eqb (c .code) 6) || between 2 (limits .members - 1) (c .count)) r) in
+    let is = by-members (c .count) S (c .code) (by-entrant (c .code) (c .count) r) in
+    let few : mc ≤ length (c .groups) = le-trans (member-bound (c .code) (c .count) r) wide in
     let sets : map (setOf d) (take mc (c .groups)) ≡ map S (range 0 mc) =
-    ap (map (setOf d)) (take-places 0 (c .groups) mc (leb→le mc (length (c .groups)) h)) ∙ map-map (setOf d) (λ i. getD (c .groups) i 0) (range 0 mc) in (
+    ap (map (setOf d)) (take-places 0 (c .groups) mc few) ∙ map-map (setOf d) (λ i. getD (c .groups) i 0) (range 0 mc) in (
       (λ t e. subst T (sym (over-members (λ g. has (setOf d g) e) c)) (is .0 (subst (λ (ws : List ℕ). T (meaning (c .code) ws)) sets t) e)),
       (λ k. subst (λ (ws : List ℕ). T (meaning (c .code) ws)) (sym sets)
           (is .1 (λ e. subst T (over-members (λ g. has (setOf d g) e) c) (k e)))),
@@ -210,36 +220,24 @@ meaning-clauses c r h d =
 
 -- ---- words below 2 ^ n: only the entrants below n count, for a clause has a literal with a minus sign
 
-any-none : (l : List ℕ) → any (λ i. false) l ≡ false
-any-none [] = refl
-any-none (x ∷ l) = any-none l
-
-none : (k code : ℕ) → T (between 1 6 code) → T (clausesFor (λ i. false) (memberClauses code k))
+none : (k code : ℕ) → T (byEntrant code) → T (clausesFor (λ i. false) (memberClauses code k))
 unfolding memberClauses shortClauses clausesFor literalFor
 none k = by-code (λ code. T (clausesFor (λ i. false) (memberClauses code k))) tt tt tt tt tt
-    (subst T (sym (union-clauses k (λ i. false))) (rw (any-none (range 1 k)) tt))
+    (subst T (sym (union-clauses k (λ i. false))) (rw (any-none (λ i. false) (range 1 k) (all-of (λ i. false ≡ false) (λ i. refl) (range 1 k))) tt))
 
-same-clauses : (v u : ℕ → Bool) → ((i : ℕ) → v i ≡ u i) → (cs : List (List Literal)) → clausesFor v cs ≡ clausesFor u cs
-unfolding clausesFor literalFor
-same-clauses v u h cs = every-ext (any (literalFor v)) (any (literalFor u)) (any-ext (literalFor v) (literalFor u) literal) cs
+pub meaning-below : (c : Constraint) → T (codeInRange (c .code) (c .count)) → limits .members ≤ length (c .groups)
+    → (n : ℕ) (d : List ℕ) → ((g : ℕ) → setOf d g < 2 ^ n) → constraintTrue d c ≡ every (clausesHold d c) (range 0 n)
+unfolding clausesHold
+meaning-below c r wide n d small =
+    let is = meaning-clauses c r wide d in
+    T-ext (constraintTrue d c) (every (clausesHold d c) (range 0 n)) (λ t. range-every (clausesHold d c) 0 n (λ e _ _. is .0 t e))
+    (λ k. is .1 (λ e. go e (every-range (clausesHold d c) 0 n k e) (decLt e n)))
   where
-    literal : (l : Literal) → literalFor v l ≡ literalFor u l
-    literal (Pos i) = h i
-    literal (Neg i) = ap not (h i)
-
-pub meaning-below : (c : Constraint) → T (codeInRange (c .code) (c .count)) → T (hasMembers c) → (n : ℕ) (d : List ℕ) → ((g : ℕ) → setOf d g < 2 ^ n)
-    → T (constraintTrue d c) ↔ ((e : ℕ) → e < n → T (clausesHold d c e))
-unfolding codeInRange clausesHold
-meaning-below c r h n d small =
-    let is = meaning-clauses c r h d in
-    ((λ t e l. is .0 t e), (λ k. is .1 (λ e. go e k (decLt e n))))
-  where
-    go : (e : ℕ) → ((e : ℕ) → e < n → T (clausesHold d c e)) → Dec (e < n) → T (clausesHold d c e)
-    go e k (yes l) = k e l
+    go : (e : ℕ) → (0 ≤ e → e < 0 + n → T (clausesHold d c e)) → Dec (e < n) → T (clausesHold d c e)
+    go e k (yes l) = k (omega arith) (omega arith)
     go e k (no f) =
         subst T
         (sym (over-members (λ g. has (setOf d g) e) c
-        ∙ same-clauses (λ i. has (setOf d (getD (c .groups) i 0)) e) (λ i. false)
-        (λ i. has-past n (setOf d (getD (c .groups) i 0)) e (small (getD (c .groups) i 0)) (omega arith))
-        (memberClauses (c .code) (c .count))))
-        (none (c .count) (c .code) (and-left (between 1 6 (c .code)) (not (eqb (c .code) 6) || between 2 (limits .members - 1) (c .count)) r))
+        ∙ same-clauses (λ i. has (setOf d (getD (c .groups) i 0)) e) (λ i. false) (c .code) (c .count) (by-entrant (c .code) (c .count) r)
+        (λ i _. has-past n (setOf d (getD (c .groups) i 0)) e (small (getD (c .groups) i 0)) (omega arith))))
+        (none (c .count) (c .code) (by-entrant (c .code) (c .count) r))

@@ -1,13 +1,13 @@
 -- A solution as a table that allows nothing else: it is a candidate, so no rule loses it. Assumes nothing.
 use mathlib.Core.Path.{_≡_, refl, sym, ap, ap₂, _∙_, subst}
-use Prim.Native.Nat.{ℕ, _-_}
+use Prim.Native.Nat.{ℕ, _-_, _≤_}
 use native.Mathlib.Nat.{le-refl}
 use native.Mathlib.Omega.{arith}
 use mathlib.Core.Bool.{Bool, true, false, cond, not, _&&_, _||_}
 use mathlib.Core.List.{List, [], _∷_, _++_, map}
-use lib.Dec.{T, leb, eqb}
+use lib.Dec.{T, leb, eqb, leb→le}
 use lib.Bits.{bitAnd, bitOr, and-self, or-self}
-use lib.ListN.{List·getD-map}
+use lib.ListN.{length, List·getD-map}
 use Rattle.model.specs.declared.Literal.{Literal}
 use Rattle.model.specs.declared.Literal.the-variants.{Pos, Neg}
 use Rattle.model.specs.declared.Group.{Group}
@@ -16,7 +16,8 @@ use Rattle.model.specs.declared.Model.{Model}
 use Rattle.model.specs.Lists.{every, any, pairwise, range}
 use Rattle.model.specs.Words.{full, less, sizeIn, size, inside, has}
 use Rattle.model.specs.Clauses.{clausesOf}
-use Rattle.model.specs.Model.{zeroGroup, tableOf, constraintsOf, groupAt, constraintInRange, inRange}
+use Rattle.model.specs.Limits.{limits}
+use Rattle.model.specs.Model.{zeroGroup, tableOf, constraintsOf, groupAt, membersSized, constraintInRange, inRange}
 use Rattle.model.specs.Propagate.{limited, cut, filled, groupRule, falseIn, allFalse, fixedWith, possibleWithout, madeTrue, literalRule, clauseRules, clauseRule, constraintRule, groupRuleAt, rules, groupConsistent, consistent, sameTable}
 use Rattle.model.specs.Demand.{groupWithin, within, unchanged, isCandidate}
 use Rattle.model.specs.Solution.{allowed, setOf, constraintTrue, isSolution}
@@ -25,8 +26,8 @@ use Rattle.model.proofs.Words.{sub-refl, sub-antisym, sub-or, sub-or-l, has-and
 use Rattle.propagation_laws.proofs.Fixpoint.{Unchanged, whole, run-fixed}
 use Rattle.propagation_laws.proofs.GroupRule.{group-eq, is-consistent}
 use Rattle.propagation_laws.proofs.ConstraintRule.{tableFrame}
-use Rattle.propagation_laws.proofs.Meaning.{literalFor, clausesFor, clausesHold, hasMembers, meaning-clauses}
-use Rattle.propagation_laws.proofs.Ranges.{model-range, constraint-code}
+use Rattle.propagation_laws.proofs.Meaning.{literalFor, clausesFor, clausesHold, meaning-clauses}
+use Rattle.propagation_laws.proofs.Ranges.{in-range, constraint-code}
 
 abbrev pub point : ℕ → Group
 point w = record { fixed = w; possible = w; low = size w; high = size w }
@@ -185,7 +186,7 @@ module _ (d : List ℕ) where
     clauses-same n cs (λ e. and-right (any (literalFor (v e)) c) (every (any (literalFor (v e))) cs) (h e)),
   )
 
-  constraint-same : (n s : ℕ) (c : Constraint) → T (constraintInRange s c) → T (hasMembers c) → T (constraintTrue d c)
+  constraint-same : (n s : ℕ) (c : Constraint) → T (constraintInRange s c) → limits .members ≤ length (c .groups) → T (constraintTrue d c)
       → constraintRule n c (points d) ≡ points d
   unfolding constraintRule clausesHold
   constraint-same n s c r k t =
@@ -193,18 +194,18 @@ module _ (d : List ℕ) where
       (all-map (λ f. f (points d) ≡ points d) (clauseRule n) (clausesOf c)
       (clauses-same n (clausesOf c) (meaning-clauses c (constraint-code s c r) k d .0 t)))
 
-  constraints-same : (n s : ℕ) (cs : List Constraint) → All (λ c. T (constraintInRange s c)) cs → All (λ c. T (hasMembers c)) cs
-      → All (λ c. T (constraintTrue d c)) cs → All (λ c. constraintRule n c (points d) ≡ points d) cs
+  constraints-same : (n s : ℕ) (cs : List Constraint) → All (λ c. T (constraintInRange s c)) cs
+      → All (λ c. T (leb (limits .members) (length (c .groups)))) cs → All (λ c. T (constraintTrue d c)) cs
+      → All (λ c. constraintRule n c (points d) ≡ points d) cs
   constraints-same n s [] r k t = tt
-  constraints-same n s (c ∷ cs) r k t = (constraint-same n s c (r .0) (k .0) (t .0), constraints-same n s cs (r .1) (k .1) (t .1))
+  constraints-same n s (c ∷ cs) r k t = (
+    constraint-same n s c (r .0) (leb→le (limits .members) (length (c .groups)) (k .0)) (t .0),
+    constraints-same n s cs (r .1) (k .1) (t .1),
+  )
 
 -- ---- a solution is a candidate
 
--- the constraints' lists have their groups, as arrays of 17 do
-pub record Sized (m : Model) : Type 0 where
-  pub members : T (every hasMembers (constraintsOf m))
-
-pub solution-candidate : (m : Model) → T (inRange m) → Sized m → (d : List ℕ) → T (isSolution m d) → T (isCandidate m (points d))
+pub solution-candidate : (m : Model) → T (inRange m) → T (membersSized m) → (d : List ℕ) → T (isSolution m d) → T (isCandidate m (points d))
 unfolding isSolution isCandidate consistent unchanged sameTable within rules
 solution-candidate m r k d t =
     let P : (List Group → List Group) → Type 0 = λ f. f (points d) ≡ points d in
@@ -217,7 +218,8 @@ solution-candidate m r k d t =
       unchanged = all-append P (map groupRuleAt (range 1 (m .s))) (map (constraintRule (m .n)) cs)
           (all-map P groupRuleAt (range 1 (m .s)) (all-of (λ g. groupRuleAt g (points d) ≡ points d) (points-group d) (range 1 (m .s))))
           (all-map P (constraintRule (m .n)) cs
-          (constraints-same d (m .n) (m .s) cs (every-all (constraintInRange (m .s)) cs (model-range m r .lines)) (every-all hasMembers cs (k .members))
+          (constraints-same d (m .n) (m .s) cs (every-all (constraintInRange (m .s)) cs (in-range m r .constraints))
+          (every-all (λ c. leb (limits .members) (length (c .groups))) cs k)
           (every-all (constraintTrue d) cs (and-right a b t))));
       inside = subst T (allowed-points (tableOf m) d) (and-left a b t);
     })

@@ -14,7 +14,7 @@ use Rattle.model.specs.declared.Constraint.{Constraint}
 use Rattle.model.specs.declared.Model.{Model}
 use Rattle.model.specs.declared.Propagated.{Propagated}
 use Rattle.model.specs.Lists.{every, pairwise, total}
-use Rattle.model.specs.Model.{tableOf, constraintsOf, withTable, groupInRange, constraintInRange, inRange}
+use Rattle.model.specs.Model.{tableOf, constraintsOf, withTable, membersSized, groupInRange, constraintInRange, inRange}
 use Rattle.model.specs.Propagate.{rules, pass, groupConsistent, consistent, sameTable, Outcome, contradiction, fixpoint, outcome, refusedPropagation, propagatedAs, propagated, isFixpoint}
 use Rattle.model.specs.Demand.{groupWithin, within, unchanged, isCandidate}
 use Rattle.model.specs.Solution.{constraintTrue, allowed, isSolution}
@@ -23,14 +23,14 @@ use Rattle.model.proofs.Words.{size-le, sub-le}
 use Rattle.propagation_laws.proofs.Fixpoint.{Answer, Candidate, PassesAtMost, Narrower, SameTable, parts, candidate, run-fixed, iterate-answer, iterate-passes, iterate-once, narrower, narrower-both}
 use Rattle.propagation_laws.proofs.GroupRule.{narrow, sound, slack}
 use Rattle.propagation_laws.proofs.ConstraintRule.{tableFrame, all-rules, fewer-rules}
-use Rattle.propagation_laws.proofs.Ranges.{group-range, is-group-range, model-range, is-model-range}
-use Rattle.propagation_laws.proofs.Points.{points, allowed-points, Sized, solution-candidate}
+use Rattle.propagation_laws.proofs.Ranges.{group-range, is-group-range, in-range, is-in-range}
+use Rattle.propagation_laws.proofs.Points.{points, allowed-points, solution-candidate}
 
 -- the same model with its constraints in another order
 pub record Reordered (m o : Model) : Type 0 where
   pub entrants : m .n ≡ o .n
   pub count : m .s ≡ o .s
-  pub lines : m .c ≡ o .c
+  pub constraints : m .c ≡ o .c
   pub groups : m .groups ≡ o .groups
   pub order : List·Permᴰ (constraintsOf m) (constraintsOf o)
 
@@ -39,7 +39,7 @@ pub record Tighter (m o : Model) : Type 0 where
   pub entrants : m .n ≡ o .n
   pub count : m .s ≡ o .s
   pub table : T (within (tableOf m) (tableOf o))
-  pub lines : (c : Constraint) → List·Memᴰ c (constraintsOf o) → List·Memᴰ c (constraintsOf m)
+  pub constraints : (c : Constraint) → List·Memᴰ c (constraintsOf o) → List·Memᴰ c (constraintsOf m)
 
 -- then m's answer a is within o's answer b
 pub record NarrowerAnswer (a b : Propagated) : Type 0 where
@@ -50,7 +50,7 @@ pub record NarrowerAnswer (a b : Propagated) : Type 0 where
 pub record Kept (m o : Model) : Type 0 where
   pub entrants : o .n ≡ m .n
   pub count : o .s ≡ m .s
-  pub lines : o .c ≡ m .c
+  pub constraintCount : o .c ≡ m .c
   pub rest : drop (m .s) (o .groups) ≡ drop (m .s) (m .groups)
   pub constraints : o .constraints ≡ m .constraints
 
@@ -95,7 +95,7 @@ module _ (m : Model) where
   unfolding outcome pass consistent sameTable tableOf
   answer r =
       iterate-answer tableFrame rs (all-rules (m .n) (m .s) (constraintsOf m)) (2 * m .s * m .n + 1) 0 (tableOf m)
-      (omega (arith, total-bound (m .n) (m .s) (m .groups) (model-range m r .table)))
+      (omega (arith, total-bound (m .n) (m .s) (m .groups) (in-range m r .groups)))
 
   bound : T (inRange m) → PassesAtMost (2 * m .s * m .n + 1) (outcome m)
   unfolding outcome pass consistent sameTable tableOf
@@ -104,7 +104,7 @@ module _ (m : Model) where
     where
       weaken : (o : Outcome (List Group)) → PassesAtMost (0 + total slack (tableOf m) + 1) o → PassesAtMost (2 * m .s * m .n + 1) o
       weaken contradiction h = tt
-      weaken (fixpoint k t) h = omega (arith, total-bound (m .n) (m .s) (m .groups) (model-range m r .table))
+      weaken (fixpoint k t) h = omega (arith, total-bound (m .n) (m .s) (m .groups) (in-range m r .groups))
 
   candidate-is : (t : List Group) → isCandidate m t ≡ candidate tableFrame rs (tableOf m) t
   unfolding isCandidate consistent unchanged sameTable within
@@ -141,22 +141,24 @@ module _ (m : Model) (r : T (inRange m)) (t : List Group) (c : Candidate tableFr
 
   kept-is : Kept m (withTable m t)
   unfolding withTable
-  kept-is = record { entrants = refl; count = refl; lines = refl; rest = front-drop (m .s) t (m .groups) long; constraints = refl }
+  kept-is = record { entrants = refl; count = refl; constraintCount = refl; rest = front-drop (m .s) t (m .groups) long; constraints = refl }
 
   twice : withTable (withTable m t) t ≡ withTable m t
   unfolding withTable
   twice = λ i. record { n = m .n; s = m .s; c = m .c; groups = t ++ front-drop (m .s) t (m .groups) long i; constraints = m .constraints }
 
-  in-range : T (inRange (withTable m t))
+  still-in-range : T (inRange (withTable m t))
   unfolding consistent within
-  in-range =
-      let q = model-range m r in
-      is-model-range (withTable m t) (unfold withTable constraintsOf in record {
+  still-in-range =
+      let q = in-range m r in
+      is-in-range (withTable m t) (unfold withTable constraintsOf in record {
+        some-entrant = q .some-entrant;
         entrants = q .entrants;
-        groups = q .groups;
+        some-group = q .some-group;
+        groupCount = q .groupCount;
+        constraintCount = q .constraintCount;
+        groups = rw table-is (ranges (m .n) t (tableOf m) (c .consistent) (c .inside) (q .groups));
         constraints = q .constraints;
-        table = rw table-is (ranges (m .n) t (tableOf m) (c .consistent) (c .inside) (q .table));
-        lines = q .lines;
       })
 
   pass-same : pass (withTable m t) t ≡ t
@@ -172,7 +174,7 @@ module _ (m : Model) (r : T (inRange m)) (t : List Group) (c : Candidate tableFr
   again-is =
       let once : outcome (withTable m t) ≡ fixpoint 1 t =
       rw (table-is, add-one) (iterate-once tableFrame (pass (withTable m t)) _ 0 t (c .consistent) pass-same) in
-      propagated-is (withTable m t) in-range ∙ ap (propagatedAs (withTable m t)) once ∙ (λ i. record { refusal = 0; passes = 1; model = twice i })
+      propagated-is (withTable m t) still-in-range ∙ ap (propagatedAs (withTable m t)) once ∙ (λ i. record { refusal = 0; passes = 1; model = twice i })
 
   -- a solution says that its sets are within the table and its constraints true
   solution-is : (d : List ℕ) → isSolution (withTable m t) d ≡ (within (points d) t && every (constraintTrue d) (constraintsOf m))
@@ -180,7 +182,7 @@ module _ (m : Model) (r : T (inRange m)) (t : List Group) (c : Candidate tableFr
   solution-is d =
       rw (table-is, allowed-points t d) (unfold withTable in refl)
 
-  solutions-are : Sized m → ((u : List Group) → T (isCandidate m u) → T (within u t)) → (d : List ℕ) → isSolution m d ≡ isSolution (withTable m t) d
+  solutions-are : T (membersSized m) → ((u : List Group) → T (isCandidate m u) → T (within u t)) → (d : List ℕ) → isSolution m d ≡ isSolution (withTable m t) d
   unfolding isSolution
   solutions-are k w d = T-ext (isSolution m d) (within (points d) t && b) to from ∙ sym (solution-is d)
     where
@@ -207,7 +209,7 @@ module _ (m o : Model) (rm : T (inRange m)) (ro : T (inRange o)) where
   unfolding within
   outcome-narrower h =
       narrower tableFrame (rs m) (rules (m .n) (m .s) (constraintsOf o))
-      (fewer-rules (m .n) (m .s) (constraintsOf m) (constraintsOf o) (h .lines)) (tableOf m) (tableOf o) (outcome m) (outcome o) (h .table)
+      (fewer-rules (m .n) (m .s) (constraintsOf m) (constraintsOf o) (h .constraints)) (tableOf m) (tableOf o) (outcome m) (outcome o) (h .table)
       (answer m rm) (rw (h .entrants, h .count) (answer o ro))
 
   as-narrower : (p q : Outcome (List Group)) → Answer tableFrame (rs m) (tableOf m) p → Answer tableFrame (rs o) (tableOf o) q
@@ -237,7 +239,7 @@ tighter-solutions m o h d t =
     (rw (allowed-points (tableOf o) d)
     (unfold within in tableFrame .w-trans (points d) (tableOf m) (tableOf o) (rw (allowed-points (tableOf m) d) at (and-left a b t)) (h .table)))
     (all-every (constraintTrue d) (constraintsOf o)
-    (all-mem P (constraintsOf o) (λ c i. all-at P (h .lines c i) (every-all (constraintTrue d) (constraintsOf m) (and-right a b t)))))
+    (all-mem P (constraintsOf o) (λ c i. all-at P (h .constraints c i) (every-all (constraintTrue d) (constraintsOf m) (and-right a b t)))))
 
 -- ---- any order of the constraints
 
@@ -245,7 +247,7 @@ reversed : (m o : Model) → Reordered m o → Reordered o m
 reversed m o h = record {
   entrants = sym (h .entrants);
   count = sym (h .count);
-  lines = sym (h .lines);
+  constraints = sym (h .constraints);
   groups = sym (h .groups);
   order = Permᴰ·symm (h .order);
 }
@@ -259,20 +261,22 @@ reordered-tighter m o h = record {
   entrants = h .entrants;
   count = h .count;
   table = rw (same-start m o h) (unfold within in tableFrame .w-refl (tableOf o));
-  lines = λ c i. perm-mem (Permᴰ·symm (h .order)) i;
+  constraints = λ c i. perm-mem (Permᴰ·symm (h .order)) i;
 }
 
 reordered-range : (m o : Model) → Reordered m o → T (inRange m) → T (inRange o)
 reordered-range m o h r =
-    let q = model-range m r in
-    is-model-range o (record {
+    let q = in-range m r in
+    is-in-range o (record {
+      some-entrant = rw (h .entrants) at (q .some-entrant);
       entrants = rw (h .entrants) at (q .entrants);
-      groups = rw (h .count) at (q .groups);
-      constraints = rw (h .lines) at (q .constraints);
-      table = rw (same-start m o h, h .entrants) at (q .table);
-      lines = rw (h .count) at
+      some-group = rw (h .count) at (q .some-group);
+      groupCount = rw (h .count) at (q .groupCount);
+      constraintCount = rw (h .constraints) at (q .constraintCount);
+      groups = rw (same-start m o h, h .entrants) at (q .groups);
+      constraints = rw (h .count) at
           (all-every (constraintInRange (m .s)) (constraintsOf o)
-          (all-perm (λ c. T (constraintInRange (m .s) c)) (h .order) (every-all (constraintInRange (m .s)) (constraintsOf m) (q .lines))));
+          (all-perm (λ c. T (constraintInRange (m .s) c)) (h .order) (every-all (constraintInRange (m .s)) (constraintsOf m) (q .constraints))));
     })
 
 module _ (m o : Model) (rm : T (inRange m)) (h : Reordered m o) where
@@ -300,7 +304,7 @@ module _ (m o : Model) (rm : T (inRange m)) (h : Reordered m o) where
 
 -- ---- all of it
 
-module _ (m : Model) (r : T (inRange m)) (k : Sized m) where
+module _ (m : Model) (r : T (inRange m)) (k : T (membersSized m)) where
   of-outcome : (o : Outcome (List Group)) → propagated m ≡ propagatedAs m o → Answer tableFrame (rs m) (tableOf m) o → PassesAtMost (2 * m .s * m .n + 1) o
       → Propagation m (propagatedAs m o)
   unfolding refusedPropagation
@@ -312,7 +316,7 @@ module _ (m : Model) (r : T (inRange m)) (k : Sized m) where
     is-candidate = λ q. absurd (omega arith);
     widest = λ q. absurd (omega arith);
     passes = omega arith;
-    kept = record { entrants = refl; count = refl; lines = refl; rest = refl; constraints = refl };
+    kept = record { entrants = refl; count = refl; constraintCount = refl; rest = refl; constraints = refl };
     in-range = r;
     is-fixpoint = λ q. absurd (omega arith);
     again = λ q. absurd (omega arith);
@@ -331,7 +335,7 @@ module _ (m : Model) (r : T (inRange m)) (k : Sized m) where
         widest = λ q u s. rw (table-is m r t c) (w u s);
         passes = b;
         kept = kept-is m r t c;
-        in-range = in-range m r t c;
+        in-range = still-in-range m r t c;
         is-fixpoint = λ q. fixpoint-is m r t c;
         again = λ q. again-is m r t c;
         solutions = solutions-are m r t c k w;

@@ -1,17 +1,24 @@
 -- The parts of the range check, as facts. Assumes nothing.
+use mathlib.Core.Path.{_≡_, _∙_, subst}
 use Prim.Native.Nat.{ℕ, _^_, _≤_, _<_}
+use native.Mathlib.Omega.{arith}
 use mathlib.Core.Bool.{_&&_}
 use lib.Dec.{T, leb, ltb, leb→le, le→leb, ltb→lt, lt→ltb}
+use lib.ListN.{length, getD, take, length-take}
+use lib.Seq.{getD-take}
 use Rattle.model.specs.declared.Group.{Group}
 use Rattle.model.specs.declared.Constraint.{Constraint}
 use Rattle.model.specs.declared.Model.{Model}
 use Rattle.model.specs.Lists.{every, between, distinct}
 use Rattle.model.specs.Words.{inside}
 use Rattle.model.specs.Limits.{limits}
-use Rattle.model.specs.Clauses.{groupsOf}
+use Rattle.model.specs.Clauses.{memberCount, groupsOf}
 use Rattle.model.specs.Model.{tableOf, constraintsOf, groupInRange, codeInRange, constraintInRange, inRange}
-use Rattle.model.proofs.Lists.{and-left, and-right, and-both}
+use Rattle.model.proofs.Lists.{and-left, and-right, and-both, between-le, le-between, every-all, every-getD, all-imp, all-getD}
+use Rattle.model.proofs.Codes.{member-bound}
 use Rattle.model.proofs.Words.{Sub, inside-sub, sub-inside}
+
+-- ---- a group
 
 pub record GroupRange (n : ℕ) (g : Group) : Type 0 where
   pub fits : Sub (g .fixed) (g .possible)
@@ -44,23 +51,57 @@ is-group-range n g r =
     (le→leb (g .low) (g .high) (r .order)))
     (le→leb (g .high) n (r .top))
 
-pub constraint-code : (s : ℕ) (c : Constraint) → T (constraintInRange s c) → T (codeInRange (c .code) (c .count))
-unfolding constraintInRange
-constraint-code s c t =
-    let a = codeInRange (c .code) (c .count) in
-    let b = every (between 1 s) (groupsOf c) in
-    and-left a b (and-left (a && b) (distinct (groupsOf c)) t)
+-- ---- a constraint
 
-pub record ModelRange (m : Model) : Type 0 where
-  pub entrants : T (between 1 (limits .entrants) (m .n))
-  pub groups : T (between 1 (limits .groups) (m .s))
-  pub constraints : T (leb (m .c) (limits .constraints))
-  pub table : T (every (groupInRange (m .n)) (tableOf m))
-  pub lines : T (every (constraintInRange (m .s)) (constraintsOf m))
+module _ (s : ℕ) (c : Constraint) (t : T (constraintInRange s c)) where
+  pub constraint-code : T (codeInRange (c .code) (c .count))
+  unfolding constraintInRange
+  constraint-code =
+      let a = codeInRange (c .code) (c .count) in
+      let b = every (between 1 s) (groupsOf c) in
+      and-left a b (and-left (a && b) (distinct (groupsOf c)) t)
 
-pub model-range : (m : Model) → T (inRange m) → ModelRange m
+  pub groups-in : T (every (between 1 s) (groupsOf c))
+  unfolding constraintInRange
+  groups-in =
+      let a = codeInRange (c .code) (c .count) in
+      let b = every (between 1 s) (groupsOf c) in
+      and-right a b (and-left (a && b) (distinct (groupsOf c)) t)
+
+  module _ (i : ℕ) (h : i < memberCount (c .code) (c .count)) where
+    -- a member's group is one of the table's, or 0 where the list is too short
+    pub member-below : getD (c .groups) i 0 ≤ s
+    unfolding groupsOf
+    member-below =
+        subst (λ (g : ℕ). g ≤ s) (getD-take (memberCount (c .code) (c .count)) (c .groups) i 0 h)
+        (all-getD (λ g. g ≤ s) 0 (omega arith) (groupsOf c)
+        (all-imp (λ g. T (between 1 s g)) (λ g. g ≤ s) (λ g h. between-le 1 s g h .1) (groupsOf c) (every-all (between 1 s) (groupsOf c) groups-in)) i)
+
+    -- where the list holds them all, each is a group
+    pub member-group : limits .members ≤ length (c .groups) → (1 ≤ getD (c .groups) i 0) × (getD (c .groups) i 0 ≤ s)
+    unfolding groupsOf
+    member-group wide =
+        let k = memberCount (c .code) (c .count) in
+        let long : length (take k (c .groups)) ≡ k =
+        length-take k (c .groups) ∙ omega (arith, member-bound (c .code) (c .count) constraint-code) in
+        between-le 1 s (getD (c .groups) i 0)
+        (subst (λ (g : ℕ). T (between 1 s g)) (getD-take k (c .groups) i 0 h)
+        (every-getD (between 1 s) (take k (c .groups)) 0 i groups-in (omega (arith, long))))
+
+-- ---- a model
+
+pub record InRange (m : Model) : Type 0 where
+  pub some-entrant : 1 ≤ m .n
+  pub entrants : m .n ≤ limits .entrants
+  pub some-group : 1 ≤ m .s
+  pub groupCount : m .s ≤ limits .groups
+  pub constraintCount : m .c ≤ limits .constraints
+  pub groups : T (every (groupInRange (m .n)) (tableOf m))
+  pub constraints : T (every (constraintInRange (m .s)) (constraintsOf m))
+
+pub in-range : (m : Model) → T (inRange m) → InRange m
 unfolding inRange
-model-range m t =
+in-range m t =
     let a = between 1 (limits .entrants) (m .n) in
     let b = between 1 (limits .groups) (m .s) in
     let c = leb (m .c) (limits .constraints) in
@@ -68,20 +109,29 @@ model-range m t =
     let e = every (constraintInRange (m .s)) (constraintsOf m) in
     let abcd = and-left (a && b && c && d) e t in
     let abc = and-left (a && b && c) d abcd in
+    let n = between-le 1 (limits .entrants) (m .n) (and-left a b (and-left (a && b) c abc)) in
+    let s = between-le 1 (limits .groups) (m .s) (and-right a b (and-left (a && b) c abc)) in
     record {
-      entrants = and-left a b (and-left (a && b) c abc);
-      groups = and-right a b (and-left (a && b) c abc);
-      constraints = and-right (a && b) c abc;
-      table = and-right (a && b && c) d abcd;
-      lines = and-right (a && b && c && d) e t;
+      some-entrant = n .0;
+      entrants = n .1;
+      some-group = s .0;
+      groupCount = s .1;
+      constraintCount = leb→le (m .c) (limits .constraints) (and-right (a && b) c abc);
+      groups = and-right (a && b && c) d abcd;
+      constraints = and-right (a && b && c && d) e t;
     }
 
-pub is-model-range : (m : Model) → ModelRange m → T (inRange m)
+pub is-in-range : (m : Model) → InRange m → T (inRange m)
 unfolding inRange
-is-model-range m r =
+is-in-range m r =
     let a = between 1 (limits .entrants) (m .n) in
     let b = between 1 (limits .groups) (m .s) in
     let c = leb (m .c) (limits .constraints) in
     let d = every (groupInRange (m .n)) (tableOf m) in
     and-both (a && b && c && d) (every (constraintInRange (m .s)) (constraintsOf m))
-    (and-both (a && b && c) d (and-both (a && b) c (and-both a b (r .entrants) (r .groups)) (r .constraints)) (r .table)) (r .lines)
+    (and-both (a && b && c) d
+    (and-both (a && b) c
+    (and-both a b (le-between 1 (limits .entrants) (m .n) (r .some-entrant) (r .entrants)) (le-between 1 (limits .groups) (m .s) (r .some-group) (r .groupCount)))
+    (le→leb (m .c) (limits .constraints) (r .constraintCount)))
+    (r .groups))
+    (r .constraints)

@@ -8,7 +8,7 @@ use native.Mathlib.Omega.{arith}
 use mathlib.Core.Bool.{Bool, true, false, cond, not, _&&_}
 use mathlib.Core.List.{List, [], _∷_, _++_, map, List·Permᴰ, Permᴰ·map}
 use borrow.Author.Tests.{ltb-false, leb-true, leb-false, eqb-true, eqb-false, le-leb, lt-leb, le-ltb, ne-eqb}
-use lib.Dec.{T, leb, ltb, eqb, eqb·suc-zero, eqb→eq, leb→le, le→leb}
+use lib.Dec.{T, leb, ltb, eqb, eqb·suc-zero, leb→le, le→leb}
 use lib.ListN.{length, getD, take, drop, set, replicate, length-append, length-map, length-replicate, take-append-drop}
 use lib.Seq.{sets, length-sets}
 use Rattle.model.specs.declared.Group.{Group}
@@ -17,17 +17,15 @@ use Rattle.model.specs.declared.Model.{Model}
 use Rattle.model.specs.declared.SheetRead.{SheetRead}
 use Rattle.model.specs.Lists.{every, between, distinct, range, total, stop}
 use Rattle.model.specs.Limits.{limits}
-use Rattle.model.specs.Clauses.{memberCount, groupsOf}
-use Rattle.model.specs.Model.{zeroGroup, zeroConstraint, zeroModel, tableOf, constraintsOf, groupInRange, codeInRange, constraintInRange, inRange}
+use Rattle.model.specs.Clauses.{groupsOf}
+use Rattle.model.specs.Model.{zeroGroup, zeroConstraint, zeroModel, tableOf, constraintsOf, Sized, membersSized, groupInRange, codeInRange, constraintInRange, inRange}
 use Rattle.model.specs.Sheet.{linesOf, valueAt, formRefusal, headRefusal, withHead, markAt, groupRefusal, groupFrom, withGroup, groupCount, firstGroup, countFrom, constraintFrom, constraintRefusal, withConstraint, lineRefusal, withLine, refusedSheet, afterLast, readLines, readSheet}
 use Rattle.model.specs.Propagate.{propagated}
 use Rattle.model.specs.Demand.{Accepted, OrderOf}
-use Rattle.model.proofs.Lists.{T-true, true-T, and-right, and-both, total-append, range-length, All, all-perm, all-map, every-all, all-every, perm-total, perm-length, every-take, every-sets, take-sets}
+use Rattle.model.proofs.Lists.{T-true, true-T, and-right, and-both, between-le, total-append, range-length, All, all-perm, all-map, all-every, perm-total, perm-length, take-sets}
 use Rattle.model.proofs.Words.{where-lt, where-sub}
-use Rattle.propagation_laws.proofs.Ranges.{is-group-range, constraint-code, model-range, is-model-range}
+use Rattle.propagation_laws.proofs.Ranges.{is-group-range, constraint-code, is-in-range}
 use Rattle.model.proofs.Codes.{member-bound}
-use Rattle.propagation_laws.proofs.Meaning.{hasMembers}
-use Rattle.propagation_laws.proofs.Points.{Sized}
 use Rattle.propagation_laws.proofs.Propagation.{Reordered, Propagation, propagation}
 use Rattle.propagation_laws.proofs.Lines.{ends, ends-last, text-lines, text-ends, text-length}
 
@@ -90,9 +88,9 @@ constraint-good s l e =
     and-both (codeInRange (c .code) (c .count) && every (between 1 s) (groupsOf c)) (distinct (groupsOf c))
     (and-both (codeInRange (c .code) (c .count)) (every (between 1 s) (groupsOf c)) (b .0) (f .0)) (g .0)
 
--- the list of an array of 17
-unfoldable pub whole : Constraint → Bool
-whole c = eqb (length (c .groups)) (limits .members)
+-- its list has room for as many groups as a constraint may have
+unfoldable whole : Constraint → Bool
+whole c = leb (limits .members) (length (c .groups))
 
 constraint-whole : (l : List ℕ) → T (codeInRange (valueAt l 1) (countFrom l)) → T (whole (constraintFrom l))
 unfolding whole constraintFrom groupCount
@@ -100,14 +98,14 @@ constraint-whole l t =
     let f : ℕ → ℕ = λ i. valueAt l (firstGroup l + i) in
     let k = groupCount l in
     let h : k ≤ limits .members = member-bound (valueAt l 1) (countFrom l) t in
-    subst (λ (x : ℕ). T (eqb x (limits .members)))
-    (sym (length-append (map f (range 0 k)) (replicate (limits .members - k) 0)
-    ∙ ap₂ (λ (a b : ℕ). a + b) (length-map (range 0 k) f ∙ range-length 0 k) (length-replicate (limits .members - k) 0)
-    ∙ sum k h))
-    tt
-  where
-    sum : (k : ℕ) → k ≤ limits .members → k + (limits .members - k) ≡ limits .members
-    sum k h = omega arith
+    le→leb (limits .members) (length (map f (range 0 k) ++ replicate (limits .members - k) 0))
+    (omega (
+      arith,
+      length-append (map f (range 0 k)) (replicate (limits .members - k) 0),
+      length-map (range 0 k) f,
+      range-length 0 k,
+      length-replicate {A = ℕ} (limits .members - k) 0,
+    ))
 
 -- ---- an accepted line, and what it does to the model
 
@@ -302,9 +300,8 @@ parts (l ∷ ls) m e =
 -- in range, and its lists are as long as the arrays
 pub record Accurate (m : Model) : Type 0 where
   pub in-range : T (inRange m)
-  pub groups : length (m .groups) ≡ limits .groups
-  pub constraints : length (m .constraints) ≡ limits .constraints
-  pub members : T (every whole (m .constraints))
+  pub sized : Sized m
+  pub members : T (membersSized m)
 
 good-constraints : (s : ℕ) (ls : List (List ℕ)) → All (Good s) ls → T (every (constraintInRange s) (map constraintFrom ls))
 good-constraints s [] g = tt
@@ -318,10 +315,6 @@ whole-constraints s [] g = tt
 whole-constraints s (l ∷ ls) g =
     and-both (whole (constraintFrom l)) (every whole (map constraintFrom ls))
     (constraint-whole l (constraint-code s (constraintFrom l) (constraint-good s l (g .0 .1)))) (whole-constraints s ls (g .1))
-
-zero-whole : T (every whole (zeroModel .constraints))
-unfolding whole zeroModel zeroConstraint
-zero-whole = tt
 
 zero-long : length (zeroModel .constraints) ≡ limits .constraints
 unfolding zeroModel
@@ -344,19 +337,23 @@ module _ (ls : List (List ℕ)) (m : Model) (p : Parts ls m) where
     made-constraints = take-sets (map constraintFrom xs) (q .constraints) (q .c) (length-map xs constraintFrom ∙ count) room
 
     made-accurate : Accurate made
-    made-accurate = record {
-      in-range = is-model-range made (record {
-        entrants = p .entrants;
-        groups = p .groups;
-        constraints = p .constraints;
-        table = unfold tableOf in p .table;
-        lines = rw made-constraints (good-constraints (q .s) xs good);
-      });
-      groups = p .wide;
-      constraints = length-sets (q .constraints) 0 (map constraintFrom xs) ∙ ap length (p .empty) ∙ zero-long;
-      members = every-sets whole (map constraintFrom xs) (q .constraints) 0
-          (subst (λ (cs : List Constraint). T (every whole cs)) (sym (p .empty)) zero-whole) (whole-constraints (q .s) xs good);
-    }
+    unfolding whole
+    made-accurate =
+        let n = between-le 1 (limits .entrants) (q .n) (p .entrants) in
+        let s = between-le 1 (limits .groups) (q .s) (p .groups) in
+        record {
+          in-range = is-in-range made (record {
+            some-entrant = n .0;
+            entrants = n .1;
+            some-group = s .0;
+            groupCount = s .1;
+            constraintCount = leb→le (q .c) (limits .constraints) (p .constraints);
+            groups = unfold tableOf in p .table;
+            constraints = rw made-constraints (good-constraints (q .s) xs good);
+          });
+          sized = record { groups = omega (arith, s .1, p .wide); constraints = omega (arith, room, length-sets (q .constraints) 0 (map constraintFrom xs)) };
+          members = rw made-constraints (whole-constraints (q .s) xs good);
+        }
 
 -- ---- the bytes of an accepted sheet
 
@@ -405,23 +402,6 @@ accurate b m e =
     subst Accurate (sym (p .rest .model))
     (made-accurate (linesOf b) m p (drop (suc (p .start .s)) (linesOf b)) (p .rest .good) (omega (arith, p .rest .count)))
 
-pub sized : (m : Model) → T (inRange m) → T (every whole (m .constraints)) → Sized m
-unfolding constraintsOf hasMembers whole
-sized m r t = record {
-  members = go (constraintsOf m) (every-all (constraintInRange (m .s)) (constraintsOf m) (model-range m r .lines))
-      (every-all whole (constraintsOf m) (every-take whole (m .c) (m .constraints) t));
-}
-  where
-    one : (c : Constraint) → T (constraintInRange (m .s) c) → T (whole c) → T (hasMembers c)
-    one c r t =
-        le→leb (memberCount (c .code) (c .count)) (length (c .groups))
-        (subst (λ (k : ℕ). memberCount (c .code) (c .count) ≤ k) (sym (eqb→eq (length (c .groups)) (limits .members) t))
-        (member-bound (c .code) (c .count) (constraint-code (m .s) c r)))
-
-    go : (cs : List Constraint) → All (λ c. T (constraintInRange (m .s) c)) cs → All (λ c. T (whole c)) cs → T (every hasMembers cs)
-    go [] r t = tt
-    go (c ∷ cs) r t = and-both (hasMembers c) (every hasMembers cs) (one c (r .0) (t .0)) (go cs (r .1) (t .1))
-
 -- an order of an accepted sheet is accepted, and its model is the same but for the order of the constraints
 pub order-accepted : (b o : List ℕ) (m : Model) → OrderOf b o m → (p : Model) × (Accepted o p × Reordered m p)
 order-accepted b o m h = (
@@ -436,7 +416,7 @@ order-accepted b o m h = (
     record {
       entrants = ap (λ (z : Model). z .n) (p .rest .model);
       count = ap (λ (z : Model). z .s) (p .rest .model);
-      lines = ap (λ (z : Model). z .c) (p .rest .model);
+      constraints = ap (λ (z : Model). z .c) (p .rest .model);
       groups = ap (λ (z : Model). z .groups) (p .rest .model);
       order = subst (λ (cs : List Constraint). List·Permᴰ cs (constraintsOf (made (linesOf b) m p ys good count)))
           (sym (ap constraintsOf (p .rest .model) ∙ made-constraints (linesOf b) m p xs (p .rest .good) (omega (arith, p .rest .count))))
@@ -496,10 +476,4 @@ order-accepted b o m h = (
 -- ---- so for every accepted sheet, and for every order of it
 
 pub sheet-propagation : (b : List ℕ) (m : Model) → Accepted b m → Propagation m (propagated m)
-sheet-propagation b m e = let a = accurate b m e in propagation m (a .in-range) (sized m (a .in-range) (a .members))
-
-pub order-same : (b o : List ℕ) (m : Model) → OrderOf b o m
-    → (p : Model) × (Accepted o p × ((propagated m .refusal ≡ propagated p .refusal) × (tableOf (propagated m .model) ≡ tableOf (propagated p .model))))
-order-same b o m h =
-    let r = order-accepted b o m h in
-    (r .0, (r .1 .0, sheet-propagation b m (h .accepted) .any-order (r .0) (r .1 .1)))
+sheet-propagation b m e = let a = accurate b m e in propagation m (a .in-range) (a .members)

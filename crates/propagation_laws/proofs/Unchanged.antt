@@ -16,7 +16,7 @@ use Rattle.model.specs.Propagate.{groupRule, clauseRules, clauseRule, constrain
 use Rattle.model.specs.Demand.{within, unchanged, isCandidate}
 use Rattle.model.proofs.Lists.{same-place, T-ext, and-left, and-right, and-both, every-getD, All, all-of, all-left, all-right, all-map, map-all, all-range}
 use Rattle.propagation_laws.proofs.Fixpoint.{Rule, Unchanged, Candidate, parts, whole, all-reduce, run-unchanged, run-fixed}
-use Rattle.propagation_laws.proofs.GroupRule.{Calm, calm}
+use Rattle.propagation_laws.proofs.GroupRule.{SettledGroup, settled-group}
 use Rattle.propagation_laws.proofs.ConstraintRule.{tableFrame, clause-rules, clause-rule, all-rules}
 
 module _ (m : Model) where
@@ -54,10 +54,10 @@ module _ (m : Model) (h : T (isFixpoint m)) where
   abbrev Still : (List Group → List Group) → Type 0
   Still r = r (tableOf m) ≡ tableOf m
 
-  pub group-still : (g : ℕ) → 1 ≤ g → g ≤ length (tableOf m) → Calm (groupAt (tableOf m) g)
+  pub group-still : (g : ℕ) → 1 ≤ g → g ≤ length (tableOf m) → SettledGroup (groupAt (tableOf m) g)
   unfolding groupAt
   group-still g a b =
-      calm (groupAt (tableOf m) g) (every-getD groupConsistent (tableOf m) zeroGroup (g - 1) (own .consistent) (omega arith))
+      settled-group (groupAt (tableOf m) g) (every-getD groupConsistent (tableOf m) zeroGroup (g - 1) (own .consistent) (omega arith))
       (same-place (g - 1) groupRule (tableOf m) zeroGroup (omega arith) (unfold groupRuleAt in at))
     where
       short : length (tableOf m) ≤ m .s

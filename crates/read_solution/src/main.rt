@@ -1,13 +1,14 @@
 // Reads a solver's answer back as groups: the sheet is the file that argument 1 names, the solver's output comes on standard input.
 ghost use mathlib.Core.Path.{_≡_};
 ghost use lib.ListN.{length};
+ghost use Rattle.model.specs.Limits.{limits};
 use libc::STDIN_FILENO;
 use libc::STDOUT_FILENO;
 use model::Model;
 
 // Entrant e + 1 after one blank, where it is in w.
 fn print_entrant(w: u64, e: u32) {
-    if 64 <= e {
+    if Model::WORD <= e {
         return;
     }
     if w >> e & 1 == 1 {
@@ -45,7 +46,7 @@ fn print_groups(words: [u64; Model::GROUPS], s: usize) {
 
 // A value for each variable, all unsaid.
 fn unsaid() -> [u8; Model::VARIABLES]
-    ensures { λ r. ⌜ length r ≡ 49152 ⌝ }
+    ensures { λ r. ⌜ length r ≡ limits .variables ⌝ }
 {
     [0; Model::VARIABLES]
 }
@@ -64,11 +65,11 @@ fn read_back(m: Model, values: &mut [u8]) {
 
 // The settled model, with a value for each of its variables. None has more than there is room for.
 fn with_values(m: Model) {
-    let groups = m.groups;
-    let v = numbering::variable_count(groups, m.s) as usize;
+    let v = numbering::of_model(m);
+    let count = v.variables as usize;
     let mut all = unsaid();
-    if v <= Model::VARIABLES {
-        read_back(m, &mut all[..v]);
+    if count <= Model::VARIABLES {
+        read_back(m, &mut all[..count]);
     }
 }
 

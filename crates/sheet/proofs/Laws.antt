@@ -1,16 +1,17 @@
 -- One step each of the definitions that the reader's loops go through. Assumes nothing.
-use Prim.Native.Nat.{ℕ, zero, suc, _+_, _-_, _*_, _^_, _%_, _≤_, _<_}
-use mathlib.Core.Path.{_≡_, refl, ap, sym, _∙_}
-use mathlib.Core.Bool.{Bool, true, false, cond, _&&_}
+use Prim.Native.Nat.{ℕ, suc, _+_, _-_, _*_, _^_, _%_, _≤_, _<_}
+use mathlib.Core.Path.{_≡_, ap, sym, _∙_}
+use mathlib.Core.Bool.{Bool, true, false, cond}
 use mathlib.Core.List.{List, [], _∷_, _++_, map, append-assoc}
-use native.Mathlib.Nat.{one-mul, add-comm, two-pow-succ, zero-add}
+use native.Mathlib.Nat.{one-mul, add-comm, zero-add}
 use native.Mathlib.Numerals.{add-one}
 use native.Mathlib.Omega.{arith}
 use borrow.Author.Tests.{eq-eqb, ne-eqb}
 use lib.Bits.{bitOr, or-shifted-r}
 use lib.Dec.{eqb}
 use lib.ListN.{length, take, drop, getD, set, replicate, length-drop, drop-of-length-le}
-use lib.Pow.{shl-exact, pow-pos}
+use Rattle.model.specs.Limits.{limits}
+use Rattle.model.proofs.Words.{shifted}
 use lib.Seq.{take-all, set-at}
 use Rattle.model.proofs.Lists.{values-append, values-length}
 use Rattle.model.proofs.Loops.{drop-next}
@@ -51,21 +52,15 @@ spaces-fewer (b ∷ bs) = go (eqb b 32) (spaces-fewer bs)
 
 -- ---- words of marks
 
-pub word-lt : (p : ℕ → Bool) (k : ℕ) → wordWhere p k < 2 ^ k
-unfolding wordWhere
-word-lt p zero = omega arith
-word-lt p (suc e) = rw two-pow-succ (go (p e) (word-lt p e))
-  where
-    go : (t : Bool) → wordWhere p e < 2 ^ e → wordWhere p e + cond t (2 ^ e) 0 < 2 ^ e + 2 ^ e
-    go true h = omega arith
-    go false h = omega (arith, pow-pos e)
-
 pub word-more : (p : ℕ → Bool) (e : ℕ) → wordWhere p (e + 1) ≡ wordWhere p e + cond (p e) (2 ^ e) 0
 unfolding wordWhere
 word-more p e = rw add-one
 
-pub or-bit : (w e : ℕ) → e < 32 → w < 2 ^ e → bitOr w (1 * 2 ^ e % 18446744073709551616) ≡ w + 2 ^ e
-or-bit w e h k = rw (shl-exact {a = 1} 1 e 64 (omega arith) (omega arith), or-shifted-r 1 e w k) (simp one-mul (add-comm (2 ^ e) w))
+pub or-bit : (w e : ℕ) → e < limits .entrants → w < 2 ^ e → bitOr w (1 * 2 ^ e % 2 ^ limits .word) ≡ w + 2 ^ e
+or-bit w e h k =
+    ap (bitOr w) (shifted e (omega arith) ∙ sym (one-mul (2 ^ e)))
+    ∙ or-shifted-r 1 e w k
+    ∙ simp one-mul (add-comm (2 ^ e) w)
 
 -- ---- a list stored place by place over zeros
 

@@ -1,12 +1,12 @@
 -- Reading line by line: what a line that is not refused tells, and what the loop keeps. Assumes nothing.
 use mathlib.Core.Path.{_≡_, refl, sym, ap, ap₂, _∙_, subst}
-use Prim.Native.Nat.{ℕ, zero, suc, _+_, _-_, _/_, _≤_, _<_, min}
+use Prim.Native.Nat.{ℕ, suc, _+_, _-_, _/_, _≤_, _<_, min}
 use native.Mathlib.Omega.{arith}
 use native.Mathlib.Numerals.{add-one}
 use mathlib.Core.Bool.{Bool, true, false, cond, not}
 use mathlib.Core.List.{List, [], _∷_}
-use borrow.Author.Tests.{eqb-true, eqb-false, eq-eqb, ne-eqb, leb-true, leb-false, le-leb, lt-leb}
-use lib.Dec.{leb, eqb, leb→le}
+use borrow.Author.Tests.{eqb-true, eqb-false, eq-eqb, ne-eqb, leb-true, le-leb, lt-leb}
+use lib.Dec.{leb, eqb}
 use lib.ListN.{length, getD, take, drop, set, length-take, length-drop, drop-of-length-le}
 use lib.Seq.{getD-drop, drop-drop}
 use Rattle.model.specs.declared.Group.{Group}
@@ -15,8 +15,8 @@ use Rattle.model.specs.declared.Model.{Model}
 use Rattle.model.specs.Lists.{stop, between}
 use Rattle.model.specs.Limits.{limits}
 use Rattle.model.specs.Model.{zeroModel, codeInRange}
-use Rattle.model.specs.Sheet.{onFirst, linesOf, valueAt, formRefusal, headRefusal, withHead, groupRefusal, groupFrom, withGroup, countFrom, groupCount, constraintFrom, constraintRefusal, withConstraint, lineRefusal, withLine, refusedSheet, afterLast, readLines}
-use Rattle.model.proofs.Lists.{true-T, and-right}
+use Rattle.model.specs.Sheet.{linesOf, valueAt, formRefusal, headRefusal, withHead, groupFrom, withGroup, countFrom, groupCount, constraintFrom, constraintRefusal, withConstraint, lineRefusal, withLine, refusedSheet, afterLast, readLines}
+use Rattle.model.proofs.Lists.{between-le, true-T}
 use Rattle.model.proofs.Codes.{member-bound}
 use Rattle.sheet.specs.Line.{lineLength}
 use Rattle.sheet.proofs.Laws.{rest}
@@ -90,9 +90,6 @@ form-passed l rest = go (eqb (formRefusal l) 0) refl
     go true p e = e
     go false p e = absurd (eqb-false (formRefusal l) 0 p e)
 
-between-le : (a b x : ℕ) → between a b x ≡ true → x ≤ b
-between-le a b x e = leb→le x b (and-right (leb a x) (leb x b) (true-T (between a b x) e))
-
 module _ (n s c : ℕ) (l : List ℕ) where
   head-told : lineRefusal n s c 0 l ≡ 0 → headRefusal l ≡ 0
   unfolding lineRefusal
@@ -106,8 +103,8 @@ module _ (n s c : ℕ) (l : List ℕ) where
       let d = passed (between 1 (limits .entrants) (valueAt l 1)) 6 _ (b .1) in
       let f = passed (between 1 (limits .groups) (valueAt l 2)) 6 _ (d .1) in
       let g = passed (leb (valueAt l 3) (limits .constraints)) 6 _ (f .1) in (
-        between-le 1 (limits .entrants) (valueAt l 1) (d .0),
-        (between-le 1 (limits .groups) (valueAt l 2) (f .0), leb-true (valueAt l 3) (limits .constraints) (g .0)),
+        between-le 1 (limits .entrants) (valueAt l 1) (true-T _ (d .0)) .1,
+        (between-le 1 (limits .groups) (valueAt l 2) (true-T _ (f .0)) .1, leb-true (valueAt l 3) (limits .constraints) (g .0)),
       )
 
   constraint-told : (done : ℕ) → lineRefusal n s c done l ≡ 0 → (done ≡ 0 → ⊥) → s < done → (done ≤ s + c) × (constraintRefusal s l ≡ 0)

@@ -16,35 +16,35 @@ use Rattle.model.specs.Lists.{every, any, each, range, between}
 use Rattle.model.specs.Limits.{limits}
 use Rattle.model.specs.Words.{full, size, has}
 use Rattle.model.specs.Clauses.{memberClauses}
-use Rattle.model.specs.Model.{zeroGroup, groupAt, tableOf, constraintsOf, constraintInRange, inRange}
-use Rattle.model.specs.Propagate.{isFixpoint}
+use Rattle.model.specs.Model.{zeroGroup, groupAt, tableOf, constraintsOf, constraintInRange}
+use Rattle.model.specs.Propagate.{Settled}
 use Rattle.model.specs.Totalizer.{shape, treeClauses, totalizerClauses}
-use Rattle.model.specs.Cnf.{openOf, openCount, atLeast, atMost, counted, firstVariable, variableOf, groupClauses, membership, clausesAt, constraintClauses}
+use Rattle.model.specs.Cnf.{openOf, openCount, atLeast, atMost, counted, firstVariable, variableOf, groupClauses, membership, constraintClauses}
 use Rattle.model.specs.Solution.{setOf}
 use Rattle.model.specs.Close.{truth, termTrue, clauseTrue, satisfying, groupBy, groupsBy, closedGroups}
-use Rattle.model.proofs.Words.{has-zero, has-or, has-less, has-where, one-has, bit-full, full-lt, word-ext}
-use Rattle.model.proofs.Lists.{T-ext, T-true, and-left, and-right, and-both, or-assoc, every-append, every-each, every-ext, every-range-ext, every-all-ext, every-all, all-imp, all-place, values-make, values-length, getD-map-range}
-use Rattle.encoding_laws.proofs.Sized.{Sized}
+use Rattle.model.proofs.Words.{has-zero, has-or, has-less, has-where, one-has, bit-full, full-lt, inside-words, word-ext}
+use Rattle.model.proofs.Lists.{T-ext, T-true, and-left, and-right, and-both, between-le, or-assoc, or-false, every-append, every-each, every-ext, every-range-ext, every-all-ext, every-all, all-imp, all-place, values-make, values-length, getD-map-range}
 use Rattle.encoding_laws.proofs.Truth.{allTrue}
 use Rattle.encoding_laws.proofs.Tree.{count, count-le, valuesFrom, tree-iff}
 use Rattle.encoding_laws.proofs.Totalizer.{totalizer-iff}
 use Rattle.encoding_laws.proofs.Groups.{table-length, clauses-parts}
-use Rattle.encoding_laws.proofs.Fixpoint.{Stable, in-range, table-stable}
-use Rattle.encoding_laws.proofs.Members.{between-le, code-six, member-below}
-use Rattle.encoding_laws.proofs.Meaning.{memberTrue, clauses-meaning, meaning-ext, below, inside-words}
+use Rattle.model.proofs.Codes.{by-entrant}
+use Rattle.propagation_laws.proofs.Ranges.{in-range, constraint-code, member-below}
+use Rattle.propagation_laws.proofs.Meaning.{literalFor, clausesFor}
+use Rattle.encoding_laws.proofs.Fixpoint.{SettledAmong, table-settled}
 use Rattle.encoding_laws.proofs.Row.{rowWord, row-size}
-use Rattle.encoding_laws.proofs.Whole.{OpenLimits, limits-of, counted-pos, uncounted, open-apart, open-lt, fixed-lt, member-true, entrant-true}
+use Rattle.encoding_laws.proofs.Whole.{OpenLimits, limits-of, counted-pos, uncounted, open-apart, open-lt, fixed-lt, member-true, constraint-entrants}
 use Rattle.solution.specs.Holds.{inGroup, wordOf, wordAt, tableWords, groupHolds, groupHoldsAt, literalWord, clauseWord, clauseHolds, constraintHolds, clausesHold}
 
 -- ---- a group that is at its fixpoint
 
-module _ (n : ℕ) (a : List Bool) (r : Group) (v o w : ℕ) (s : Stable n r) (e : w ≡ wordOf n a r v) where
+module _ (n : ℕ) (a : List Bool) (r : Group) (v o w : ℕ) (s : SettledAmong n r) (e : w ≡ wordOf n a r v) where
   x : ℕ
   x = count (valuesFrom a v (openCount r))
 
   word-size : size w ≡ size (r .fixed) + x
   unfolding wordOf rowWord openCount x
-  word-size = ap size e ∙ row-size (truth a) n (r .fixed) (openOf r) v (fixed-lt n r s) (open-lt n r s) (open-apart n r s)
+  word-size = ap size e ∙ row-size (truth a) n (r .fixed) (openOf r) v (fixed-lt n r s) (open-lt n r s) (open-apart r (s .group))
 
   few : x ≤ openCount r
   unfolding x
@@ -58,7 +58,7 @@ module _ (n : ℕ) (a : List Bool) (r : Group) (v o w : ℕ) (s : Stable n r) (e
   group-true = go (counted r) refl
     where
       l : OpenLimits r
-      l = limits-of n r s
+      l = limits-of r (s .group)
 
       m : ℕ
       m = openCount r
@@ -148,67 +148,59 @@ module _ (n : ℕ) (d ids : List ℕ) where
   abbrev bits : ℕ → ℕ → Bool
   bits e i = has (setOf d (getD ids i 0)) e
 
-  literal-has : (e : ℕ) → e < n → (l : Literal) → has (literalWord d ids (full n) l) e ≡ memberTrue (bits e) l
+  literal-has : (e : ℕ) → e < n → (l : Literal) → has (literalWord d ids (full n) l) e ≡ literalFor (bits e) l
+  unfolding literalFor
   literal-has e h (Pos i) = refl
   literal-has e h (Neg i) = has-less (full n) (setOf d (getD ids i 0)) e ∙ ap (λ b. b && not (bits e i)) (full-has e h)
 
-  clause-has : (e : ℕ) → e < n → (x : ℕ) (ls : List Literal) → has (clauseWord d ids (full n) x ls) e ≡ (has x e || any (memberTrue (bits e)) ls)
-  clause-has e h x [] = or-false (has x e)
-    where
-      or-false : (b : Bool) → b ≡ (b || false)
-      or-false true = refl
-      or-false false = refl
+  clause-has : (e : ℕ) → e < n → (x : ℕ) (ls : List Literal) → has (clauseWord d ids (full n) x ls) e ≡ (has x e || any (literalFor (bits e)) ls)
+  clause-has e h x [] = sym (or-false (has x e))
   clause-has e h x (l ∷ ls) =
       clause-has e h (bitOr x (literalWord d ids (full n) l)) ls
-      ∙ ap (λ b. b || any (memberTrue (bits e)) ls) (has-or x (literalWord d ids (full n) l) e ∙ ap (λ b. has x e || b) (literal-has e h l))
-      ∙ or-assoc (has x e) (memberTrue (bits e) l) (any (memberTrue (bits e)) ls)
+      ∙ ap (λ b. b || any (literalFor (bits e)) ls) (has-or x (literalWord d ids (full n) l) e ∙ ap (λ b. has x e || b) (literal-has e h l))
+      ∙ or-assoc (has x e) (literalFor (bits e) l) (any (literalFor (bits e)) ls)
 
-  clause-is : (ls : List Literal) → clauseHolds d ids (full n) ls ≡ every (λ e. any (memberTrue (bits e)) ls) (range 0 n)
+  clause-is : (ls : List Literal) → clauseHolds d ids (full n) ls ≡ every (λ e. any (literalFor (bits e)) ls) (range 0 n)
   unfolding clauseHolds
   clause-is ls =
       let w = clauseWord d ids (full n) 0 ls in
-      inside-words n (full n) w (below n (full n) (full-lt n))
-      ∙ every-range-ext (λ e. not (has (full n) e) || has w e) (λ e. any (memberTrue (bits e)) ls) 0 n
+      inside-words n (full n) w (full-lt n)
+      ∙ every-range-ext (λ e. not (has (full n) e) || has w e) (λ e. any (literalFor (bits e)) ls) 0 n
       (λ e _ h. let k : e < n = omega arith in
-      ap (λ b. not b || has w e) (full-has e k) ∙ clause-has e k 0 ls ∙ ap (λ b. b || any (memberTrue (bits e)) ls) (has-zero e))
+      ap (λ b. not b || has w e) (full-has e k) ∙ clause-has e k 0 ls ∙ ap (λ b. b || any (literalFor (bits e)) ls) (has-zero e))
 
 -- ---- a constraint
 
 module _ (m : Model) (a : List Bool) (some : 1 ≤ m .s) where
   constraint-true : (c : Constraint) → T (constraintInRange (m .s) c)
       → allTrue a (constraintClauses (m .n) (tableOf m) c) ≡ constraintHolds (closedGroups m a) (full (m .n)) c
-  unfolding constraintClauses constraintHolds
+  unfolding constraintHolds clausesFor
   constraint-true c t =
       let cs = memberClauses (c .code) (c .count) in
       let d = closedGroups m a in
-      let six = code-six (m .s) c t in
-      every-each (clauseTrue a) (clausesAt (tableOf m) c) (range 0 (m .n))
-      ∙ every-range-ext (λ e. allTrue a (clausesAt (tableOf m) c e)) (λ e. every (any (memberTrue (bits (m .n) d (c .groups) e))) cs) 0 (m .n)
-      (λ e _ h. entrant-true m a c e six
-      ∙ meaning-ext (c .code) (c .count) (λ i. termTrue a (membership (tableOf m) e (getD (c .groups) i 0))) (bits (m .n) d (c .groups) e) six
-      (λ i l. sym (set-has m a (getD (c .groups) i 0) e some (member-below (m .s) c t i l) (omega arith)))
-      ∙ sym (clauses-meaning (bits (m .n) d (c .groups) e) (c .code) (c .count) six))
-      ∙ every-swap (λ e ls. any (memberTrue (bits (m .n) d (c .groups) e)) ls) (range 0 (m .n)) cs
-      ∙ sym (every-ext (clauseHolds d (c .groups) (full (m .n))) (λ ls. every (λ e. any (memberTrue (bits (m .n) d (c .groups) e)) ls) (range 0 (m .n)))
+      constraint-entrants m a c d (by-entrant (c .code) (c .count) (constraint-code (m .s) c t))
+      (λ i e l h. set-has m a (getD (c .groups) i 0) e some (member-below (m .s) c t i l) h)
+      ∙ every-swap (λ e ls. any (literalFor (bits (m .n) d (c .groups) e)) ls) (range 0 (m .n)) cs
+      ∙ sym (every-ext (clauseHolds d (c .groups) (full (m .n))) (λ ls. every (λ e. any (literalFor (bits (m .n) d (c .groups) e)) ls) (range 0 (m .n)))
       (clause-is (m .n) d (c .groups)) cs)
 
 -- ---- the listing
 
-module _ (m : Model) (a : List Bool) (r : T (inRange m)) (fix : T (isFixpoint m)) (z : Sized m) where
+module _ (m : Model) (a : List Bool) (q : Settled m) where
   group-at : (g : ℕ) → 1 ≤ g → g ≤ m .s → allTrue a (groupClauses (tableOf m) g) ≡ groupHoldsAt a (tableOf m) (closedGroups m a) g
   unfolding groupHoldsAt groupClauses groupAt wordAt setOf
   group-at g h k =
-      let q : 1 + (g - 1) ≡ g = omega arith in
+      let e : 1 + (g - 1) ≡ g = omega arith in
       sym (group-true (m .n) a (groupAt (tableOf m) g) (firstVariable (tableOf m) g) _ (setOf (closedGroups m a) g)
-      (all-place (Stable (m .n)) zeroGroup (tableOf m) (table-stable m fix r) (g - 1) (omega (arith, table-length m z)))
-      (word-in m a (g - 1) (omega arith) ∙ ap (groupBy m a) q ∙ sym (word-by m a g)))
+      (all-place (SettledAmong (m .n)) zeroGroup (tableOf m) (table-settled m q) (g - 1) (omega (arith, table-length m (q .sized))))
+      (word-in m a (g - 1) (omega arith) ∙ ap (groupBy m a) e ∙ sym (word-by m a g)))
 
   pub satisfying-is : satisfying m a ≡ clausesHold a (tableOf m) (constraintsOf m) (closedGroups m a) (m .n) (m .s)
   unfolding satisfying clausesHold
   satisfying-is =
       let gs = each (groupClauses (tableOf m)) (range 1 (m .s)) in
       let cs = each (constraintClauses (m .n) (tableOf m)) (constraintsOf m) in
-      ap (allTrue a) (clauses-parts m z)
+      ap (allTrue a) (clauses-parts m (q .sized))
       ∙ every-append (clauseTrue a) gs cs
       ∙ ap₂ (λ (x y : Bool). x && y)
       (every-each (clauseTrue a) (groupClauses (tableOf m)) (range 1 (m .s))
@@ -217,5 +209,5 @@ module _ (m : Model) (a : List Bool) (r : T (inRange m)) (fix : T (isFixpoint m)
       (every-each (clauseTrue a) (constraintClauses (m .n) (tableOf m)) (constraintsOf m)
       ∙ every-all-ext (λ c. allTrue a (constraintClauses (m .n) (tableOf m) c)) (constraintHolds (closedGroups m a) (full (m .n))) (constraintsOf m)
       (all-imp (λ c. T (constraintInRange (m .s) c)) (λ c. allTrue a (constraintClauses (m .n) (tableOf m) c) ≡ constraintHolds (closedGroups m a) (full (m .n)) c)
-      (constraint-true m a (in-range m r .some-group)) (constraintsOf m)
-      (every-all (constraintInRange (m .s)) (constraintsOf m) (in-range m r .constraints))))
+      (constraint-true m a (in-range m (q .in-range) .some-group)) (constraintsOf m)
+      (every-all (constraintInRange (m .s)) (constraintsOf m) (in-range m (q .in-range) .constraints))))

@@ -16,10 +16,9 @@ use Rattle.model.specs.Totalizer.{shape, treeClauses}
 use Rattle.model.specs.Cnf.{openCount, counted, firstVariable, firstOutput}
 use Rattle.model.specs.Solution.{setOf}
 use Rattle.model.proofs.Words.{size-ones}
-use Rattle.model.proofs.Lists.{values-append, values-length, getD-map-range}
+use Rattle.model.proofs.Lists.{values-append, values-length}
 use Rattle.model.proofs.Loops.{range-goes, range-stops, range-done}
 use Rattle.encoding_laws.proofs.Truth.{allTrue}
-use Rattle.numbering.specs.Counter.{numbers, firstVariables, firstOutputs}
 use Rattle.solution.specs.Holds.{wordOf, wordAt, tableWords, groupHolds, groupHoldsAt}
 
 -- ---- one group
@@ -52,14 +51,6 @@ unfolding groupAt
 group-is t s i h =
     let q : i ≡ 1 + i - 1 = omega arith in
     sym (getD-take s t i zeroGroup h) ∙ ap (λ (k : ℕ). getD (take s t) k zeroGroup) q
-
-pub variable-is : (t : List Group) (fs : List ℕ) (i v : ℕ) → fs ≡ firstVariables t → i < limits .groups → v ≡ getD fs i 0 → v ≡ firstVariable t (1 + i)
-unfolding firstVariables numbers
-variable-is t fs i v e h k = k ∙ ap (λ (l : List ℕ). getD l i 0) e ∙ getD-map-range (firstVariable t) 1 (limits .groups) i 0 h
-
-pub output-is : (t : List Group) (fs : List ℕ) (i o : ℕ) → fs ≡ firstOutputs t → i < limits .groups → o ≡ getD fs i 0 → o ≡ firstOutput t (1 + i)
-unfolding firstOutputs numbers
-output-is t fs i o e h k = k ∙ ap (λ (l : List ℕ). getD l i 0) e ∙ getD-map-range (firstOutput t) 1 (limits .groups) i 0 h
 
 word-is : (d : List ℕ) (i : ℕ) → getD d i 0 ≡ setOf d (1 + i)
 unfolding setOf

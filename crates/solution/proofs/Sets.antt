@@ -2,13 +2,11 @@
 use mathlib.Core.Path.{_≡_, refl, sym, ap, _∙_}
 use mathlib.Core.Bool.{Bool, true, false, cond, _&&_}
 use mathlib.Core.List.{List, []}
-use Prim.Native.Nat.{ℕ, _+_, _-_, _*_, _/_, _%_, _^_, _≤_, _<_}
-use native.Mathlib.Nat.{one-mul, mod-lt}
+use Prim.Native.Nat.{ℕ, _+_, _-_, _/_, _%_, _^_, _≤_, _<_}
 use native.Mathlib.Numerals.{add-one}
 use native.Mathlib.Omega.{arith}
 use lib.Bits.{bitOr, bitAnd, bitXor}
-use lib.Count.{ones, ones-le}
-use lib.Pow.{shl-exact, pow-pos}
+use lib.Count.{ones}
 use lib.ListN.{length, getD, drop, drop-of-length-le, List·getD-eq-default}
 use borrow.Author.Tests.{eq-eqb, ne-eqb}
 use Rattle.model.specs.declared.Literal.{Literal}
@@ -19,18 +17,11 @@ use Rattle.model.specs.Words.{less, bit, has, wordWhere, inside}
 use Rattle.model.specs.Cnf.{openOf}
 use Rattle.model.specs.Solution.{setOf}
 use Rattle.model.specs.Close.{truth}
-use Rattle.model.proofs.Words.{size-ones, where-lt}
+use Rattle.model.proofs.Words.{size-ones}
 use Rattle.model.proofs.Loops.{drop-next, every-next}
 use Rattle.solution.specs.Holds.{inGroup, wordOf, literalWord, clauseWord, clauseHolds}
 
--- `1 << e` is 2 to the e
-pub power : (e : ℕ) → e < 64 → 1 * 2 ^ e % 2 ^ 64 ≡ 2 ^ e
-power e h = shl-exact 1 e 64 (omega arith) (omega arith) ∙ one-mul (2 ^ e)
-
 -- ---- an entrant of a group
-
-pub below-few : (w e d : ℕ) → d ≡ 2 ^ e → ones (w % d) ≤ e
-below-few w e d q = rw q (ones-le e (w % 2 ^ e) (mod-lt w (pow-pos e)))
 
 module _ (a : List Bool) (g : Group) (v e : ℕ) where
   pub in-fixed : g .fixed / 2 ^ e % 2 ≡ 1 → true ≡ inGroup a g v e
@@ -53,10 +44,6 @@ module _ (a : List Bool) (g : Group) (v e : ℕ) where
 pub word-next : (a : List Bool) (g : Group) (v e : ℕ) → wordOf (e + 1) a g v ≡ wordOf e a g v + cond (inGroup a g v e) (2 ^ e) 0
 unfolding wordOf wordWhere
 word-next a g v e = ap (λ (k : ℕ). wordWhere (inGroup a g v) k) (add-one e)
-
-pub word-lt : (a : List Bool) (g : Group) (v e : ℕ) → wordOf e a g v < 2 ^ e
-unfolding wordOf
-word-lt a g v e = where-lt (inGroup a g v) e
 
 -- ---- the word of a group by its number
 

@@ -9,14 +9,14 @@ use lib.Dec.{T, ltb}
 use Rattle.model.specs.Lists.{total, range}
 use Rattle.model.specs.Totalizer.{Shape, node, shape, leaves, outputs, treeClauses, treeOutputCount}
 use Rattle.model.specs.Close.{truth}
-use Rattle.model.proofs.Lists.{T-ext, every-range, range-every}
+use Rattle.model.proofs.Lists.{T-ext, beq-refl, beq-eq, every-range, range-every}
 use Rattle.encoding_laws.proofs.Truth.{allTrue, T-and}
 use Rattle.encoding_laws.proofs.Node.{Unary}
 use Rattle.encoding_laws.proofs.Tree.{count, valuesFrom, trues, trues-add, parts, tree-iff}
 use Rattle.encoding_laws.proofs.Totalizer.{leaves-shape, shape-one, shape-step}
 use Rattle.encoding_laws.proofs.Counts.{outputs-count, output-count-step}
-use Rattle.numbering.proofs.Counters.{within-word}
-use Rattle.encoding_laws.proofs.Meaning.{beq-refl, beq-eq}
+use Rattle.model.specs.Limits.{limits}
+use Rattle.numbering.proofs.Totalizers.{within-word}
 use Rattle.solution.specs.Holds.{trueCount, outputIs, countsTo}
 
 -- ---- counts and outputs
@@ -92,7 +92,7 @@ node-holds a l r v o =
 -- ---- the tree of a size
 
 -- the outputs of the halves, k and j
-pub halves : (m k j : ℕ) → m ≤ 64 → 2 ≤ m → k ≡ treeOutputCount (min (m / 2) 64) → j ≡ treeOutputCount (min (m - m / 2) 64)
+pub halves : (m k j : ℕ) → m ≤ limits .word → 2 ≤ m → k ≡ treeOutputCount (min (m / 2) (limits .word)) → j ≡ treeOutputCount (min (m - m / 2) (limits .word))
     → (k ≡ treeOutputCount (m / 2)) × (j ≡ treeOutputCount (m - m / 2)) × (treeOutputCount m ≡ m + k + j)
 halves m k j h l p q =
     let a : k ≡ treeOutputCount (m / 2) = p ∙ within-word (m / 2) (omega arith) in

@@ -7,12 +7,12 @@ ghost use Prim.Native.Nat.{_+_, _^_, _≤_, _<_};
 ghost use lib.ListN.{length, getD, take};
 ghost use Rattle.model.specs.Lists.{every, range};
 ghost use Rattle.model.specs.Limits.{limits};
-ghost use Rattle.model.specs.Words.{full};
 ghost use Rattle.model.specs.Clauses.{memberClauses};
 ghost use Rattle.model.specs.Totalizer.{shape, treeClauses, treeOutputCount};
 ghost use Rattle.model.specs.Assignment.{isSaid};
 ghost use Rattle.model.specs.Solution.{setOf};
 ghost use Rattle.model.specs.Close.{truth, clauseTrue, assignmentOf, closed};
+ghost use Rattle.numbering.specs.Numbering.{firstVariables, firstOutputs};
 ghost use Rattle.solution.specs.Holds.{inGroup, wordOf, tableWords, trueCount, countsTo, groupHolds, groupHoldsAt, literalWord, clauseWord, clauseHolds, constraintHolds, clausesHold, refusedClosing};
 use model::Closed;
 use model::Constraint;
@@ -20,6 +20,7 @@ use model::Group;
 use model::Literal;
 use model::Model;
 use model::Reading;
+use numbering::Numbering;
 
 // ---- variables
 
@@ -56,7 +57,7 @@ fn add_true(values: &[u8], v: usize, n: usize) -> usize
 
 // How many of the m variables from v on are true.
 fn true_count(values: &[u8], v: usize, m: usize) -> usize
-    requires { ⌜ (v < 10000000000) × (m ≤ 64) ⌝ }
+    requires { ⌜ (v < 10000000000) × (m ≤ limits .word) ⌝ }
     ensures { λ r. ⌜ r ≡ trueCount (assignmentOf (now (values .entry))) v m ⌝ }
 {
     let mut n: usize = 0;
@@ -70,7 +71,7 @@ fn true_count(values: &[u8], v: usize, m: usize) -> usize
 
 // Whether the m outputs from o on are true up to x and false above.
 fn counts_to(values: &[u8], o: usize, m: usize, x: usize) -> bool
-    requires { ⌜ (o < 10000000000) × (m ≤ 64) ⌝ }
+    requires { ⌜ (o < 10000000000) × (m ≤ limits .word) ⌝ }
     ensures { λ r. ⌜ r ≡ countsTo (assignmentOf (now (values .entry))) o m x ⌝ }
 {
     let mut i: usize = 0;
@@ -104,7 +105,7 @@ fn all_said(values: &[u8]) -> bool
 
 // Whether entrant e is in g, whose variables start at v.
 fn in_group(values: &[u8], g: Group, v: usize, e: u32) -> bool
-    requires { ⌜ (v < 10000000000) × (e < 32) ⌝ }
+    requires { ⌜ (v < 10000000000) × (e < limits .entrants) ⌝ }
     ensures { λ r. ⌜ r ≡ inGroup (assignmentOf (now (values .entry))) g v e ⌝ }
 {
     if (g.fixed >> e) % 2 == 1 {
@@ -120,7 +121,7 @@ fn in_group(values: &[u8], g: Group, v: usize, e: u32) -> bool
 
 // w, which has entrants below e only, with entrant e where it is in g.
 fn add_entrant(values: &[u8], g: Group, v: usize, e: u32, w: u64) -> u64
-    requires { ⌜ (v < 10000000000) × (e < 32) ⌝ }
+    requires { ⌜ (v < 10000000000) × (e < limits .entrants) ⌝ }
     requires { ⌜ w < 2 ^ e ⌝ }
     ensures { λ r. ⌜ r ≡ w + cond (inGroup (assignmentOf (now (values .entry))) g v e) (2 ^ e) 0 ⌝ }
 {
@@ -143,18 +144,24 @@ fn word_of(values: &[u8], g: Group, v: usize, n: u32) -> u64
     w
 }
 
-// The words of groups 1 to s; zero past s.
-fn words(values: &[u8], groups: [Group; Model::GROUPS], n: u32, s: u32) -> [u64; Model::GROUPS]
+// The words of groups 1 to s, whose first variables are given; zero past s.
+fn words(
+    values: &[u8],
+    groups: [Group; Model::GROUPS],
+    first: [u32; Model::GROUPS],
+    n: u32,
+    s: u32,
+) -> [u64; Model::GROUPS]
     requires { ⌜ (n ≤ limits .entrants) × (s ≤ limits .groups) ⌝ }
+    requires { ⌜ first ≡ firstVariables (take s groups) ⌝ }
     ensures { λ r. ⌜ (length r ≡ limits .groups) × (r ≡ tableWords n (assignmentOf (now (values .entry))) (take s groups) s) ⌝ }
 {
-    let firsts = numbering::first_variables(groups, s);
     let end = s as usize;
     let mut r = [0u64; Model::GROUPS];
     let mut i: usize = 0;
     while i < end {
         let g = groups[i];
-        let v = wide(firsts[i]);
+        let v = wide(first[i]);
         r[i] = word_of(values, g, v, n);
         i += 1;
     }
@@ -165,7 +172,7 @@ fn words(values: &[u8], groups: [Group; Model::GROUPS], n: u32, s: u32) -> [u64;
 
 // A tree of size m, whose leaves start at v and outputs at o: left half, right half, then the node itself.
 fn tree_holds(values: &[u8], m: u32, v: usize, o: usize) -> bool
-    requires { ⌜ (m ≤ 64) × (v + m < 10000000000) × (o + treeOutputCount m < 10000000000) ⌝ }
+    requires { ⌜ (m ≤ limits .word) × (v + m < 10000000000) × (o + treeOutputCount m < 10000000000) ⌝ }
     ensures { λ r. ⌜ r ≡ every (clauseTrue (assignmentOf (now (values .entry)))) (treeClauses (shape m) v o) ⌝ }
 {
     if m < 2 {
@@ -197,30 +204,31 @@ fn group_holds(values: &[u8], g: Group, w: u64, v: usize, o: usize) -> bool
     if g.high < count {
         return false;
     }
-    let c = numbering::counter_of(g);
-    if !c.exists {
+    let t = numbering::totalizer_of(g);
+    if !t.exists {
         return true;
     }
-    tree_holds(values, c.free, v, o)
+    tree_holds(values, t.size, v, o)
 }
 
-// Groups 1 to s.
+// Groups 1 to s, whose first variables and outputs are given.
 fn groups_hold(
     values: &[u8],
     groups: [Group; Model::GROUPS],
+    first: [u32; Model::GROUPS],
+    outputs: [u32; Model::GROUPS],
     words: [u64; Model::GROUPS],
     s: u32,
 ) -> bool
     requires { ⌜ s ≤ limits .groups ⌝ }
+    requires { ⌜ (first ≡ firstVariables (take s groups)) × (outputs ≡ firstOutputs (take s groups)) ⌝ }
     ensures { λ r. ⌜ r ≡ every (groupHoldsAt (assignmentOf (now (values .entry))) (take s groups) words) (range 1 s) ⌝ }
 {
-    let firsts = numbering::first_variables(groups, s);
-    let outputs = numbering::first_outputs(groups, s);
     let end = s as usize;
     let mut i: usize = 0;
     while i < end {
         let g = groups[i];
-        let v = wide(firsts[i]);
+        let v = wide(first[i]);
         let o = wide(outputs[i]);
         if !group_holds(values, g, words[i], v, o) {
             return false;
@@ -342,32 +350,28 @@ fn constraints_hold(
 
 // ---- closing
 
-// Entrants 1 to n.
-fn entrants(n: u32) -> u64
-    requires { ⌜ n ≤ limits .entrants ⌝ }
-    ensures { λ r. ⌜ r ≡ full n ⌝ }
-{
-    (1 << n) - 1
-}
-
 // Every clause of the listing; the arrays are whole.
 fn clauses_hold(
     values: &[u8],
     groups: [Group; Model::GROUPS],
     constraints: [Constraint; Model::CONSTRAINTS],
+    v: Numbering,
     words: [u64; Model::GROUPS],
     n: u32,
     s: u32,
     c: u32,
 ) -> bool
     requires { ⌜ (n ≤ limits .entrants) × (s ≤ limits .groups) × (c ≤ limits .constraints) ⌝ }
+    requires { ⌜ (v .first ≡ firstVariables (take s groups)) × (v .outputs ≡ firstOutputs (take s groups)) ⌝ }
     ensures { λ r. ⌜ (length groups ≡ limits .groups) × (length constraints ≡ limits .constraints) ⌝ }
     ensures { λ r. ⌜ r ≡ clausesHold (assignmentOf (now (values .entry))) (take s groups) (take c constraints) words n s ⌝ }
 {
-    if !groups_hold(values, groups, words, s) {
+    let first = v.first;
+    let outputs = v.outputs;
+    if !groups_hold(values, groups, first, outputs, words, s) {
         return false;
     }
-    constraints_hold(words, constraints, c as usize, entrants(n))
+    constraints_hold(words, constraints, c as usize, model::entrants(n))
 }
 
 fn refused(refusal: u32) -> Closed
@@ -383,14 +387,12 @@ fn refused(refusal: u32) -> Closed
 pub fn close(m: Model, r: Reading, values: &[u8]) -> Closed
     ensures { λ a. ⌜ a ≡ closed m r (now (values .entry)) ⌝ }
 {
-    if !m.in_range() {
-        return refused(20);
+    let refusal = propagate::unsettled(m);
+    if refusal != 0 {
+        return refused(refusal);
     }
-    if !propagate::is_fixpoint(m) {
-        return refused(22);
-    }
-    let groups = m.groups;
-    if values.len() != numbering::variable_count(groups, m.s) as usize {
+    let v = numbering::of_model(m);
+    if values.len() != v.variables as usize {
         return refused(26);
     }
     if !r.closed {
@@ -399,9 +401,11 @@ pub fn close(m: Model, r: Reading, values: &[u8]) -> Closed
     if !all_said(values) {
         return refused(27);
     }
-    let found = words(values, groups, m.n, m.s);
+    let groups = m.groups;
+    let first = v.first;
+    let found = words(values, groups, first, m.n, m.s);
     let constraints = m.constraints;
-    if !clauses_hold(values, groups, constraints, found, m.n, m.s, m.c) {
+    if !clauses_hold(values, groups, constraints, v, found, m.n, m.s, m.c) {
         return refused(28);
     }
     Closed {

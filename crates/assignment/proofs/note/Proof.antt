@@ -1,7 +1,7 @@
 -- `note` sets the bit of a variable. Assumes nothing.
 use Prim.Native.Nat.{_-_, _%_}
 use Rattle.assignment.specs.Line.{withFlag, notedWith}
-use Rattle.assignment.proofs.Words.{shifted}
+use Rattle.model.proofs.Words.{shifted}
 use native.Mathlib.Omega.{arith}
 use borrow.Author.Tests.{lt-ltb, le-ltb}
 use borrow.Author.Needs.{needs}

@@ -1,6 +1,7 @@
 -- `is_filled` stays in bounds and ends. Assumes nothing.
 use Prim.Native.Nat.{_-_}
 use native.Mathlib.Omega.{arith}
+use Rattle.model.specs.Limits.{limits}
 use Rattle.block_lengths.proofs.is_filled.Statement.{statement}
 use Rattle.block_lengths.proofs.is_filled.Tie as tie
 
@@ -8,7 +9,7 @@ abbrev Inv-loop : tie.InvT-loop
 Inv-loop all from i₀ i = Unit {0}
 
 abbrev μ-loop : tie.MeasureT-loop
-μ-loop all from i₀ i = 32768 - i
+μ-loop all from i₀ i = limits .block - i
 
 loop-holds : tie.Need-loop-holds Inv-loop μ-loop
 loop-holds c = tt

@@ -3,6 +3,7 @@ use mathlib.Core.Path.{_≡_, refl, ap, _∙_}
 use mathlib.Core.List.{map}
 use Prim.Native.Nat.{ℕ, _-_, _*_, _≤_}
 use lib.ListN.{take}
+use Rattle.model.specs.Limits.{limits}
 use Rattle.model.specs.Lists.{total, range}
 use Rattle.cnf.specs.Parts.{memberTerm, entrantCount, constraintCount}
 use Rattle.cnf.proofs.MemberTerms.{total-last, count-first}
@@ -11,7 +12,7 @@ use Rattle.cnf.proofs.constraint_count.Statement.{statement}
 use Rattle.cnf.proofs.constraint_count.Tie as tie
 
 abbrev Inv-loop : tie.InvT-loop
-Inv-loop ms k code count n r₀ e₀ r e = (e ≤ n) × (r ≡ total (λ i. entrantCount (map (memberTerm i) (take k ms)) code count) (range 0 e)) × (r ≤ e * 100)
+Inv-loop ms k code count n r₀ e₀ r e = (e ≤ n) × (r ≡ total (λ i. entrantCount (map (memberTerm i) (take k ms)) code count) (range 0 e)) × (r ≤ e * limits .members)
 
 abbrev μ-loop : tie.MeasureT-loop
 μ-loop ms k code count n r₀ e₀ r e = n - e

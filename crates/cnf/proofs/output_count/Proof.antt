@@ -1,6 +1,6 @@
 -- `output_count` is the number of a tree's outputs. Assumes nothing.
 use mathlib.Core.Path.{_∙_}
-use Rattle.numbering.proofs.Counters.{within-word}
+use Rattle.numbering.proofs.Totalizers.{within-word}
 use native.Mathlib.Omega.{arith}
 use borrow.Author.Needs.{needs}
 use Rattle.cnf.proofs.output_count.Statement.{statement}

@@ -1,7 +1,8 @@
 -- `put_small` writes a number of at most three digits. Assumes nothing.
 use mathlib.Core.Path.{sym}
 use lib.ListN.{length-set}
-use Rattle.cnf.proofs.Numbers.{decimal-small, two-digits, three-digits, one-length, two-length, three-digits-length}
+use Rattle.encoding_laws.proofs.Decimal.{decimal-small, decimal-one}
+use Rattle.cnf.proofs.Numbers.{two-digits, three-digits, two-length, three-digits-length}
 use Rattle.cnf.proofs.Writes.{byte, snoc, same-text}
 use native.Mathlib.Omega.{arith}
 use borrow.Author.Needs.{needs}
@@ -15,7 +16,7 @@ add-buf : tie.Need-add-buf
 add-buf c = search needs
 
 slice-write-buf : tie.Need-slice-write-buf
-slice-write-buf c = omega (arith, one-length (c .before .args .v) (c .if1 .taken), (c .before .pre .1))
+slice-write-buf c = omega (arith, decimal-one (c .before .args .v) (c .if1 .taken), (c .before .pre .1))
 
 add-result : tie.Need-add-result
 add-result c = search needs

@@ -1,6 +1,5 @@
 -- `root` is the first output of a tree's root. Assumes nothing.
 use mathlib.Core.Path.{sym}
-use Rattle.encoding_laws.proofs.Bounds.{small-tree}
 use Rattle.cnf.proofs.Trees.{root-one, root-more}
 use native.Mathlib.Omega.{arith}
 use borrow.Author.Needs.{needs}
@@ -14,7 +13,7 @@ output-count-requires : tie.Need-output-count-requires
 output-count-requires c κs = search needs
 
 add-result : tie.Need-add-result
-add-result c = omega (arith, (c .output-count .ensures), small-tree (c .before .before .args .m) (c .before .before .pre .0) .0)
+add-result c = omega (arith, c .output-count .ensures, c .before .before .pre .1)
 
 sub-result : tie.Need-sub-result
 sub-result c = omega (arith, (c .output-count .ensures), root-more (c .before .before .args .m) (c .before .before .args .v) (c .before .before .args .o) (c .before .if1 .left))

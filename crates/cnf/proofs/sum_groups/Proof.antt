@@ -2,16 +2,17 @@
 use mathlib.Core.Path.{_≡_, refl, ap, _∙_}
 use Prim.Native.Nat.{ℕ, _-_, _*_, _≤_}
 use lib.ListN.{take}
+use Rattle.model.specs.Limits.{limits}
 use Rattle.model.specs.Lists.{total}
 use Rattle.model.specs.Model.{zeroGroup}
 use Rattle.model.specs.Cnf.{groupClauseCount}
-use Rattle.cnf.proofs.Groups.{count-next, steady-at}
+use Rattle.cnf.proofs.Groups.{count-next, settled-at}
 use native.Mathlib.Omega.{arith}
 use Rattle.cnf.proofs.sum_groups.Statement.{statement}
 use Rattle.cnf.proofs.sum_groups.Tie as tie
 
 abbrev Inv-loop : tie.InvT-loop
-Inv-loop s groups r₀ i₀ r i = (i ≤ s) × (r ≡ total groupClauseCount (take i groups)) × (r ≤ i * 1344)
+Inv-loop s groups r₀ i₀ r i = (i ≤ s) × (r ≡ total groupClauseCount (take i groups)) × (r ≤ i * limits .block)
 
 abbrev μ-loop : tie.MeasureT-loop
 μ-loop s groups r₀ i₀ r i = s - i
@@ -27,7 +28,7 @@ array-copy-out-g c = omega (arith, (c .before .before .good))
 
 group-count-requires : tie.Need-group-count-requires Inv-loop μ-loop
 unfolding zeroGroup
-group-count-requires c κs = steady-at (c .before .before .before .args .t1) (c .before .before .before .args .s) (c .before .before .loop .i) (c .before .before .before .pre .1) (c .before .loop-test .taken) (omega (arith, (c .before .before .before .good)))
+group-count-requires c κs = settled-at (c .before .before .before .args .t1) (c .before .before .before .args .s) (c .before .before .loop .i) (c .before .before .before .pre .1) (c .before .loop-test .taken) (omega (arith, (c .before .before .before .good)))
 
 add-r : tie.Need-add-r Inv-loop μ-loop
 add-r c = omega (arith, (c .group-count .ensures .1), (c .before .before .before .loop .inv .2))

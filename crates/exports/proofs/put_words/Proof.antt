@@ -1,4 +1,5 @@
 -- `put_words`: the words passed stand at the front, and the rest of the slice is as it was. Assumes nothing.
+use Rattle.model.specs.Limits.{limits}
 use mathlib.Core.Path.{refl}
 use Prim.Native.Nat.{_-_}
 use native.Mathlib.Omega.{arith}
@@ -11,7 +12,7 @@ abbrev Inv-loop : tie.InvT-loop
 Inv-loop groups₀ words i₀ groups i = Copying words groups₀ groups i
 
 abbrev μ-loop : tie.MeasureT-loop
-μ-loop groups₀ words i₀ groups i = 256 - i
+μ-loop groups₀ words i₀ groups i = limits .groups - i
 
 returns : tie.Need-returns Inv-loop μ-loop
 returns c = not-laid _ _ _ (c .if1 .taken)

@@ -1,4 +1,5 @@
 -- `all_distinct` tests the first k numbers. Invariant: the test of all is the test of those from i on. Assumes nothing.
+use Rattle.model.specs.Limits.{limits}
 use Prim.Native.Nat.{_≤_, _-_}
 use mathlib.Core.Path.{_≡_, refl, _∙_, sym}
 use lib.ListN.{drop, take}
@@ -10,10 +11,10 @@ use Rattle.model.proofs.all_distinct.Statement.{statement}
 use Rattle.model.proofs.all_distinct.Tie as tie
 
 abbrev Inv-loop : tie.InvT-loop
-Inv-loop k ids i₀ i = (i ≤ 17) × (distinct (take k ids) ≡ distinct (drop i (take k ids)))
+Inv-loop k ids i₀ i = (i ≤ limits .members) × (distinct (take k ids) ≡ distinct (drop i (take k ids)))
 
 abbrev μ-loop : tie.MeasureT-loop
-μ-loop k ids i₀ i = 17 - i
+μ-loop k ids i₀ i = limits .members - i
 
 loop-holds : tie.Need-loop-holds Inv-loop μ-loop
 loop-holds c = (omega arith, refl)

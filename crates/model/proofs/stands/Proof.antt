@@ -1,4 +1,5 @@
 -- `stands` looks for x from place i on. Invariant: the answer is that of the places from j on. Assumes nothing.
+use Rattle.model.specs.Limits.{limits}
 use Prim.Native.Nat.{_-_}
 use mathlib.Core.Path.{_≡_, refl}
 use lib.Dec.{eqb}
@@ -14,7 +15,7 @@ abbrev Inv-loop : tie.InvT-loop
 Inv-loop i k x ids j₀ j = any (eqb x) (drop i (take k ids)) ≡ any (eqb x) (drop j (take k ids))
 
 abbrev μ-loop : tie.MeasureT-loop
-μ-loop i k x ids j₀ j = 17 - j
+μ-loop i k x ids j₀ j = limits .members - j
 
 loop-holds : tie.Need-loop-holds Inv-loop μ-loop
 loop-holds c = refl

@@ -1,5 +1,6 @@
 -- `open_count` is the number of a group's open entrants. Assumes nothing.
 use mathlib.Core.Path.{sym}
+use Rattle.model.specs.Limits.{limits}
 use Rattle.model.specs.Words.{less}
 use Rattle.model.specs.Cnf.{openCount, openOf}
 use Rattle.model.proofs.Words.{size-ones, sub-less, sub-le}
@@ -13,7 +14,7 @@ unfolding openCount openOf less
 returns c =
     let g = c .before .before .args .g in
     let h = sub-le (sub-less (g .possible) (g .fixed)) in
-    (sym (size-ones _), ones-le 64 _ (let k = c .before .struct-known .given .1 in omega arith))
+    (sym (size-ones _), ones-le (limits .word) _ (let k = c .before .struct-known .given .1 in omega arith))
 
 pub open-count-spec : {M : Type 1} → statement M
 open-count-spec = tie.close (tie.spec returns)

@@ -25,7 +25,7 @@ make-true-requires : tie.Need-make-true-requires
 make-true-requires c κs = literal-stands _ (clauseOf ((c .before .before .before .before .before .before .before .before .before .before .args .code)) ((c .before .before .before .before .before .before .before .before .before .before .args .k)) ((c .before .before .before .before .before .before .before .before .before .before .args .j))) ((c .before .before .before .before .before .before .before .before .before .before .args .i)) _ ((c .before .before .before .before .before .before .before .before .before .before .pre .0)) (omega arith) ((c .before .before .literal-at .ensures))
 
 returns : tie.Need-returns
-returns c = literal-made ((c .before .before .before .before .before .before .before .before .before .before .before .args .fixed .now)) ((c .before .before .before .before .before .before .before .before .before .before .before .args .possible .now)) ((c .before .before .before .before .before .before .before .before .before .before .before .args .ids .now)) (clauseOf ((c .before .before .before .before .before .before .before .before .before .before .before .args .code)) ((c .before .before .before .before .before .before .before .before .before .before .before .args .k)) ((c .before .before .before .before .before .before .before .before .before .before .before .args .j))) ((c .before .before .before .before .before .before .before .before .before .before .before .args .n)) ((c .before .before .before .before .before .before .before .before .before .before .before .args .i)) _ ((c .before .before .before .literal-at .ensures)) ((c .before .before .before .before .before .before .before .before .before .before .before .args .count)) ((c .before .before .before .before .before .before .before .before .before .before .before .pre .1 .1 .1)) _ _ _ ((c .before .before .before .before .before .before .before .before .entrants .ensures)) ((c .before .before .before .before .before .before .before .literals-false .ensures)) ((c .before .before .before .before .literals-false2 .ensures)) _ _ ((c .make-true .ensures))
+returns c = literal-made ((c .before .before .before .before .before .before .before .before .before .before .before .args .fixed .now)) ((c .before .before .before .before .before .before .before .before .before .before .before .args .possible .now)) ((c .before .before .before .before .before .before .before .before .before .before .before .args .ids .now)) (clauseOf ((c .before .before .before .before .before .before .before .before .before .before .before .args .code)) ((c .before .before .before .before .before .before .before .before .before .before .before .args .k)) ((c .before .before .before .before .before .before .before .before .before .before .before .args .j))) ((c .before .before .before .before .before .before .before .before .before .before .before .args .n)) ((c .before .before .before .before .before .before .before .before .before .before .before .args .i)) _ ((c .before .before .before .literal-at .ensures)) ((c .before .before .before .before .before .before .before .before .before .before .before .args .count)) ((c .before .before .before .before .before .before .before .before .before .before .before .pre .1 .1 .1)) (omega (arith, c .before .before .before .before .before .before .before .before .before .before .before .pre .1 .0)) _ _ _ ((c .before .before .before .before .before .before .before .before .entrants .ensures)) ((c .before .before .before .before .before .before .before .literals-false .ensures)) ((c .before .before .before .before .literals-false2 .ensures)) _ _ ((c .make-true .ensures))
 
 pub literal-rule-spec : {M : Type 1} → statement M
 literal-rule-spec =

@@ -1,4 +1,5 @@
 -- `unpacked` reads the groups into arrays. Invariant: the first i are read, and the others are zero. Assumes nothing.
+use Rattle.model.specs.Limits.{limits}
 use Prim.Native.Nat.{_≤_, _-_}
 use Rattle.propagate.specs.Flat.{groupsIn}
 use Rattle.propagate.proofs.Arrays.{Read, read-none, read-next, read-all}
@@ -7,10 +8,10 @@ use Rattle.propagate.proofs.unpacked.Statement.{statement}
 use Rattle.propagate.proofs.unpacked.Tie as tie
 
 abbrev Inv-loop : tie.InvT-loop
-Inv-loop groups fixed₀ possible₀ low₀ high₀ i₀ fixed possible low high i = (i ≤ 256) × Read groups i fixed possible low high
+Inv-loop groups fixed₀ possible₀ low₀ high₀ i₀ fixed possible low high i = (i ≤ limits .groups) × Read groups i fixed possible low high
 
 abbrev μ-loop : tie.MeasureT-loop
-μ-loop groups fixed₀ possible₀ low₀ high₀ i₀ fixed possible low high i = 256 - i
+μ-loop groups fixed₀ possible₀ low₀ high₀ i₀ fixed possible low high i = limits .groups - i
 
 loop-holds : tie.Need-loop-holds Inv-loop μ-loop
 loop-holds c = (omega arith, read-none ((c .args .t1)))

@@ -1,14 +1,15 @@
 -- `write_constraint` writes a constraint line: kind, code, the count of code 6, then the groups. Assumes nothing.
+use Rattle.model.specs.Limits.{limits}
 use Prim.Native.Nat.{_≤_, _-_}
 use borrow.Author.Needs.{needs}
 use Rattle.propagate_sheet.proofs.write_constraint.Statement.{statement}
 use Rattle.propagate_sheet.proofs.write_constraint.Tie as tie
 
 abbrev Inv-loop : tie.InvT-loop
-Inv-loop c line₀ first k j₀ line j = (j ≤ 17) × (first ≤ 3)
+Inv-loop c line₀ first k j₀ line j = (j ≤ limits .members) × (first ≤ 3)
 
 abbrev μ-loop : tie.MeasureT-loop
-μ-loop c line₀ first k j₀ line j = 17 - j
+μ-loop c line₀ first k j₀ line j = limits .members - j
 
 put-field-requires : tie.Need-put-field-requires Inv-loop μ-loop
 put-field-requires c κs = search needs

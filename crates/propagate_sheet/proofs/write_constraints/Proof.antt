@@ -1,14 +1,15 @@
 -- `write_constraints` writes each line in order. Assumes nothing.
+use Rattle.model.specs.Limits.{limits}
 use Prim.Native.Nat.{_≤_, _-_}
 use borrow.Author.Needs.{needs}
 use Rattle.propagate_sheet.proofs.write_constraints.Statement.{statement}
 use Rattle.propagate_sheet.proofs.write_constraints.Tie as tie
 
 abbrev Inv-loop : tie.InvT-loop
-Inv-loop m j₀ j = j ≤ 256
+Inv-loop m j₀ j = j ≤ limits .constraints
 
 abbrev μ-loop : tie.MeasureT-loop
-μ-loop m j₀ j = 256 - j
+μ-loop m j₀ j = limits .constraints - j
 
 loop-holds : tie.Need-loop-holds Inv-loop μ-loop
 loop-holds c = search needs

@@ -1,14 +1,15 @@
 -- `write_groups` writes each line in order. Assumes nothing.
+use Rattle.model.specs.Limits.{limits}
 use Prim.Native.Nat.{_≤_, _-_}
 use borrow.Author.Needs.{needs}
 use Rattle.propagate_sheet.proofs.write_groups.Statement.{statement}
 use Rattle.propagate_sheet.proofs.write_groups.Tie as tie
 
 abbrev Inv-loop : tie.InvT-loop
-Inv-loop m i₀ i = i ≤ 256
+Inv-loop m i₀ i = i ≤ limits .groups
 
 abbrev μ-loop : tie.MeasureT-loop
-μ-loop m i₀ i = 256 - i
+μ-loop m i₀ i = limits .groups - i
 
 loop-holds : tie.Need-loop-holds Inv-loop μ-loop
 loop-holds c = search needs

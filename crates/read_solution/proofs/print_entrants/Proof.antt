@@ -1,6 +1,7 @@
 -- `print_entrants` ends. Assumes nothing.
 use Prim.Native.Nat.{_-_}
 use native.Mathlib.Omega.{arith}
+use Rattle.model.specs.Limits.{limits}
 use borrow.Author.Needs.{needs}
 use Rattle.read_solution.proofs.print_entrants.Statement.{statement}
 use Rattle.read_solution.proofs.print_entrants.Tie as tie
@@ -9,7 +10,7 @@ abbrev Inv-loop : tie.InvT-loop
 Inv-loop w e₀ e = Unit {0}
 
 abbrev μ-loop : tie.MeasureT-loop
-μ-loop w e₀ e = 32 - e
+μ-loop w e₀ e = limits .entrants - e
 
 loop-holds : tie.Need-loop-holds Inv-loop μ-loop
 loop-holds c = tt

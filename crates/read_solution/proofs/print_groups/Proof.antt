@@ -1,6 +1,7 @@
 -- `print_groups` stays in bounds and ends. Assumes nothing.
 use Prim.Native.Nat.{_-_}
 use native.Mathlib.Omega.{arith}
+use Rattle.model.specs.Limits.{limits}
 use borrow.Author.Needs.{needs}
 use Rattle.read_solution.proofs.print_groups.Statement.{statement}
 use Rattle.read_solution.proofs.print_groups.Tie as tie
@@ -9,7 +10,7 @@ abbrev Inv-loop : tie.InvT-loop
 Inv-loop s words i₀ i = Unit {0}
 
 abbrev μ-loop : tie.MeasureT-loop
-μ-loop s words i₀ i = 256 - i
+μ-loop s words i₀ i = limits .groups - i
 
 loop-holds : tie.Need-loop-holds Inv-loop μ-loop
 loop-holds c = tt

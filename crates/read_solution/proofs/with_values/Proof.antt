@@ -5,11 +5,11 @@ use borrow.Author.Needs.{needs}
 use Rattle.read_solution.proofs.with_values.Statement.{statement}
 use Rattle.read_solution.proofs.with_values.Tie as tie
 
-variable-count-requires : tie.Need-variable-count-requires
-variable-count-requires c κs = search needs
+of-model-requires : tie.Need-of-model-requires
+of-model-requires c κs = search needs
 
-cast-v : tie.Need-cast-v
-cast-v c = search needs
+cast-count : tie.Need-cast-count
+cast-count c = search needs
 
 unsaid-requires : tie.Need-unsaid-requires
 unsaid-requires c κs = search needs
@@ -33,8 +33,8 @@ pub with-values-spec : {M : Type 1} → statement M
 with-values-spec =
     tie.close
     (tie.spec
-    variable-count-requires
-    cast-v
+    of-model-requires
+    cast-count
     unsaid-requires
     array-borrow-prefix-all
     slice-aggregate-read-back

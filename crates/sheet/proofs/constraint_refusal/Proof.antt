@@ -1,4 +1,5 @@
 -- `constraint_refusal` judges a constraint line. Assumes nothing.
+use Rattle.model.specs.Limits.{limits}
 use Prim.Native.Nat.{ℕ, _≤_, _+_, _/_}
 use mathlib.Core.Path.{_≡_, refl, _∙_, sym, ap₂}
 use mathlib.Core.Bool.{Bool, true, false, cond, not}
@@ -34,7 +35,7 @@ module _ (l : List ℕ) (code count : ℕ) (p : code ≡ valueAt l 1) (q : count
   in-range : codeInRange (valueAt l 1) (countFrom l) ≡ true
   in-range = sym (ap₂ codeInRange p q) ∙ sym e ∙ t
 
-  small : groupCount l ≤ 17
+  small : groupCount l ≤ limits .members
   unfolding groupCount
   small = member-bound (valueAt l 1) (countFrom l) (true-T _ in-range)
 

@@ -5,7 +5,8 @@ use mathlib.Core.Bool.{not}
 use lib.Dec.{eqb}
 use Rattle.model.specs.Words.{wordWhere}
 use Rattle.model.specs.Sheet.{markAt, groupFrom}
-use Rattle.sheet.proofs.Laws.{word-lt, word-more}
+use Rattle.model.proofs.Words.{where-lt}
+use Rattle.sheet.proofs.Laws.{word-more}
 use native.Mathlib.Omega.{arith}
 use borrow.Author.Needs.{needs}
 use Rattle.sheet.proofs.read_group.Statement.{statement}
@@ -31,10 +32,10 @@ value-requires : tie.Need-value-requires Inv-loop μ-loop
 value-requires c κs = search needs
 
 with-bit-requires : tie.Need-with-bit-requires Inv-loop μ-loop
-with-bit-requires c κs = (omega arith, rw ((c .before .before .loop .inv) .1) (word-lt _ _))
+with-bit-requires c κs = (omega arith, rw ((c .before .before .loop .inv) .1) (where-lt _ _))
 
 with-bit-requires-2 : tie.Need-with-bit-requires-2 Inv-loop μ-loop
-with-bit-requires-2 c κs = (omega arith, rw ((c .before .before .before .loop .inv) .2) (word-lt _ _))
+with-bit-requires-2 c κs = (omega arith, rw ((c .before .before .before .loop .inv) .2) (where-lt _ _))
 
 add-e : tie.Need-add-e Inv-loop μ-loop
 add-e c = search needs

@@ -1,4 +1,5 @@
 -- `read_numbers` gives the numbers of a constraint line's groups. Invariant: the first i of them, then zeros. Assumes nothing.
+use Rattle.model.specs.Limits.{limits}
 use Prim.Native.Nat.{ℕ, _≤_, _<_, _+_, _-_}
 use mathlib.Core.Path.{_≡_, _∙_, refl}
 use mathlib.Core.List.{List, _++_, map}
@@ -21,19 +22,19 @@ first-le l = go (eqb (valueAt l 1) 6)
     go true = omega arith
     go false = omega arith
 
-stored : (line : List ℕ) (k a i v : ℕ) (groups : List ℕ) → k ≤ 17 → i < k → a ≡ firstGroup line
-    → groups ≡ map (λ j. valueAt line (firstGroup line + j)) (range 0 i) ++ replicate (17 - i) 0 → v ≡ valueAt line (a + i)
-    → set groups i v ≡ map (λ j. valueAt line (firstGroup line + j)) (range 0 (i + 1)) ++ replicate (17 - (i + 1)) 0
+stored : (line : List ℕ) (k a i v : ℕ) (groups : List ℕ) → k ≤ limits .members → i < k → a ≡ firstGroup line
+    → groups ≡ map (λ j. valueAt line (firstGroup line + j)) (range 0 i) ++ replicate (limits .members - i) 0 → v ≡ valueAt line (a + i)
+    → set groups i v ≡ map (λ j. valueAt line (firstGroup line + j)) (range 0 (i + 1)) ++ replicate (limits .members - (i + 1)) 0
 stored line k a i v groups hk hi ha e hv =
-    rw (e, hv, ha) (store-next (λ j. valueAt line (firstGroup line + j)) 17 i (omega arith))
+    rw (e, hv, ha) (store-next (λ j. valueAt line (firstGroup line + j)) (limits .members) i (omega arith))
 
 done : (line : List ℕ) (k i : ℕ) (groups : List ℕ) → i ≡ k → k ≡ groupCount line
-    → groups ≡ map (λ j. valueAt line (firstGroup line + j)) (range 0 i) ++ replicate (17 - i) 0
-    → groups ≡ map (λ j. valueAt line (firstGroup line + j)) (range 0 (groupCount line)) ++ replicate (17 - groupCount line) 0
+    → groups ≡ map (λ j. valueAt line (firstGroup line + j)) (range 0 i) ++ replicate (limits .members - i) 0
+    → groups ≡ map (λ j. valueAt line (firstGroup line + j)) (range 0 (groupCount line)) ++ replicate (limits .members - groupCount line) 0
 done line k i groups hi hk e = e ∙ rw (hi ∙ hk)
 
 abbrev Inv-loop : tie.InvT-loop
-Inv-loop line k a groups₀ i₀ groups i = (i ≤ k) × (groups ≡ map (λ j. valueAt line (firstGroup line + j)) (range 0 i) ++ replicate (17 - i) 0)
+Inv-loop line k a groups₀ i₀ groups i = (i ≤ k) × (groups ≡ map (λ j. valueAt line (firstGroup line + j)) (range 0 i) ++ replicate (limits .members - i) 0)
 
 abbrev μ-loop : tie.MeasureT-loop
 μ-loop line k a groups₀ i₀ groups i = k - i

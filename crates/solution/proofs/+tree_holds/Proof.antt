@@ -4,7 +4,9 @@ use native.Mathlib.Omega.{arith}
 use borrow.Author.Needs.{needs}
 use borrow.Author.Tests.{not-true, not-false}
 use Rattle.model.specs.Close.{assignmentOf}
-use Rattle.numbering.proofs.Counters.{outputs-few}
+use Rattle.model.specs.Limits.{limits}
+use Rattle.encoding_laws.proofs.Bounds.{outputs-mono}
+use Rattle.numbering.proofs.Totalizers.{outputs-few}
 use Rattle.solution.proofs.Trees.{halves, leaf-holds, left-fails, right-fails, own-decides}
 use Prim.Native.Nat.{ℕ, _+_, _/_, _<_, min}
 use borrow.Fn.Kinds.{In}
@@ -87,7 +89,7 @@ tree-holds-add-p : (t : ℕ) → tree-holds-lts.Need-add-p (
   counts-to-reads.Asked,
   counts-to-reads.Learnt,
 ) (tree-holds-at t) tree-holds.Post
-tree-holds-add-p t c = let k = (c .output-count .ensures) in let f = outputs-few (min ((c .before .before .before .args .m) / 2) 64) (omega arith) in omega arith
+tree-holds-add-p t c = let k = (c .output-count .ensures) in let f = outputs-mono (min (c .before .before .before .args .m / 2) (limits .word)) (limits .word) (omega arith) in omega (arith, outputs-few)
 
 tree-holds-output-count-requires-2 : (t : ℕ) → tree-holds-lts.Need-output-count-requires-2 (
   output-count-reads.Asked,

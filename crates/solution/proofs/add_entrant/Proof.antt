@@ -1,6 +1,7 @@
 -- `add_entrant` adds one entrant. Assumes nothing.
 use lib.Pow.{pow-lt}
-use Rattle.solution.proofs.Sets.{power}
+use Rattle.model.specs.Limits.{limits}
+use Rattle.model.proofs.Words.{shifted}
 use Prim.Native.Nat.{ℕ, _+_, _^_}
 use native.Mathlib.Nat.{add-zero}
 use mathlib.Core.Bool.{Bool, cond}
@@ -17,10 +18,10 @@ shl-result : tie.Need-shl-result
 shl-result c = search needs
 
 add-result : tie.Need-add-result
-add-result c = omega (arith, power (c .before .before .before .args .e) (omega arith), (c .before .before .before .pre .1), pow-lt {i = (c .before .before .before .args .e)} {j = 32} (c .before .before .before .pre .0 .1))
+add-result c = omega (arith, shifted (c .before .before .before .args .e) (omega arith), (c .before .before .before .pre .1), pow-lt {i = (c .before .before .before .args .e)} {j = limits .entrants} (c .before .before .before .pre .0 .1))
 
 returns : tie.Need-returns
-returns c = let s = (c .before .before .before) in ap (λ (x : ℕ). s .args .w + x) (power (s .args .e) (omega arith)) ∙ sym (ap (λ (b : Bool). s .args .w + cond b (2 ^ s .args .e) 0) (sym (c .before .in-group .ensures) ∙ (c .if1 .taken)))
+returns c = let s = (c .before .before .before) in ap (λ (x : ℕ). s .args .w + x) (shifted (s .args .e) (omega arith)) ∙ sym (ap (λ (b : Bool). s .args .w + cond b (2 ^ s .args .e) 0) (sym (c .before .in-group .ensures) ∙ (c .if1 .taken)))
 
 returns-2 : tie.Need-returns-2
 returns-2 c = let s = (c .before .before .before) in sym (ap (λ (b : Bool). s .args .w + cond b (2 ^ s .args .e) 0) (sym (c .before .in-group .ensures) ∙ (c .if1 .left)) ∙ add-zero (s .args .w))

@@ -1,7 +1,8 @@
 -- `in_group` looks at the fixed entrants, then at the variable of an open one. Assumes nothing.
 use Rattle.model.specs.Close.{assignmentOf}
 use lib.Bits.{bitAnd, bitXor}
-use Rattle.solution.proofs.Sets.{power, below-few, in-fixed, in-open, in-none}
+use Rattle.solution.proofs.Sets.{in-fixed, in-open, in-none}
+use Rattle.model.proofs.Words.{shifted, below-few}
 use Rattle.model.specs.Cnf.{openOf}
 use Rattle.model.specs.Words.{less}
 use lib.Pow.{pow-pos}
@@ -23,20 +24,20 @@ shl-below : tie.Need-shl-below
 shl-below c = search needs
 
 rem-below : tie.Need-rem-below
-rem-below c = omega (arith, power (c .before .before .before .before .before .before .args .e) (omega arith), pow-pos (c .before .before .before .before .before .before .args .e))
+rem-below c = omega (arith, shifted (c .before .before .before .before .before .before .args .e) (omega arith), pow-pos (c .before .before .before .before .before .before .args .e))
 
 cast-is-true : tie.Need-cast-is-true
-cast-is-true c = let g = (c .before .before .before .before .before .before .args .g) in omega (arith, below-few (bitXor (g .possible) (bitAnd (g .possible) (g .fixed))) (c .before .before .before .before .before .before .args .e) _ (power (c .before .before .before .before .before .before .args .e) (omega arith)))
+cast-is-true c = let g = (c .before .before .before .before .before .before .args .g) in omega (arith, below-few (bitXor (g .possible) (bitAnd (g .possible) (g .fixed))) (c .before .before .before .before .before .before .args .e) _ (shifted (c .before .before .before .before .before .before .args .e) (omega arith)))
 
 add-is-true : tie.Need-add-is-true
-add-is-true c = let g = (c .before .before .before .before .before .before .args .g) in omega (arith, below-few (bitXor (g .possible) (bitAnd (g .possible) (g .fixed))) (c .before .before .before .before .before .before .args .e) _ (power (c .before .before .before .before .before .before .args .e) (omega arith)))
+add-is-true c = let g = (c .before .before .before .before .before .before .args .g) in omega (arith, below-few (bitXor (g .possible) (bitAnd (g .possible) (g .fixed))) (c .before .before .before .before .before .before .args .e) _ (shifted (c .before .before .before .before .before .before .args .e) (omega arith)))
 
 is-true-requires : tie.Need-is-true-requires
 is-true-requires c κs = search needs
 
 returns-2 : tie.Need-returns-2
 unfolding openOf less
-returns-2 c = in-open (assignmentOf (c .before .before .before .before .before .before .before .args .values .now)) (c .before .before .before .before .before .before .before .args .g) (c .before .before .before .before .before .before .before .args .v) (c .before .before .before .before .before .before .before .args .e) (c .before .before .before .before .if1 .left) (c .before .if2 .taken) _ (power (c .before .before .before .before .before .before .before .args .e) (omega arith)) _ (c .is-true .ensures)
+returns-2 c = in-open (assignmentOf (c .before .before .before .before .before .before .before .args .values .now)) (c .before .before .before .before .before .before .before .args .g) (c .before .before .before .before .before .before .before .args .v) (c .before .before .before .before .before .before .before .args .e) (c .before .before .before .before .if1 .left) (c .before .if2 .taken) _ (shifted (c .before .before .before .before .before .before .before .args .e) (omega arith)) _ (c .is-true .ensures)
 
 returns-3 : tie.Need-returns-3
 unfolding openOf less

@@ -1,6 +1,7 @@
 -- `word_of` adds entrant by entrant. Invariant: those below e are added. Assumes nothing.
-use Rattle.solution.proofs.Sets.{word-next, word-lt}
+use Rattle.solution.proofs.Sets.{word-next}
 use Rattle.model.specs.Words.{wordWhere}
+use Rattle.model.proofs.Words.{where-lt}
 use mathlib.Core.Bool.{cond}
 use mathlib.Core.Path.{_≡_, refl, sym, ap, _∙_}
 use Prim.Native.Nat.{_≤_, _-_, ℕ, _+_, _^_}
@@ -21,7 +22,10 @@ unfolding wordOf wordWhere
 loop-holds c = (omega arith, refl)
 
 add-entrant-requires : tie.Need-add-entrant-requires Inv-loop μ-loop
-add-entrant-requires c κs = ((omega arith, omega arith), omega (arith, word-lt (assignmentOf (c .before .before .before .args .values .now)) (c .before .before .before .args .g) (c .before .before .before .args .v) (c .before .loop .e), (c .before .loop .inv .1)))
+unfolding wordOf
+add-entrant-requires c κs =
+    let a = c .before .before .before .args in
+    ((omega arith, omega arith), omega (arith, where-lt (inGroup (assignmentOf (a .values .now)) (a .g) (a .v)) (c .before .loop .e), c .before .loop .inv .1))
 
 add-e : tie.Need-add-e Inv-loop μ-loop
 add-e c = omega arith

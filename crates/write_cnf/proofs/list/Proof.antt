@@ -1,41 +1,37 @@
 -- `list` ends: each run moves on. What it writes is compared with stored output. Assumes nothing.
-use Prim.Native.Nat.{_<_}
-use lib.ListN.{length-take}
 use mathlib.Core.Path.{_≡_, refl, sym, _∙_}
-use Prim.Native.Nat.{_+_, _-_}
-use lib.ListN.{length}
-use Rattle.cnf.proofs.Runs.{run-moves, run-inside}
+use mathlib.Core.Bool.{Bool, true, false, cond}
+use Prim.Native.Nat.{ℕ, _+_, _-_, _≤_}
 use native.Mathlib.Omega.{arith}
-use borrow.Author.Needs.{needs}
+use lib.ListN.{length, length-take}
+use Rattle.model.specs.Model.{inRange}
+use Rattle.model.specs.Cnf.{blockCount}
+use Rattle.cnf.proofs.Runs.{run-moves, run-inside}
 use Rattle.write_cnf.proofs.list.Statement.{statement}
 use Rattle.write_cnf.proofs.list.Tie as tie
 
 abbrev Inv-loop : tie.InvT-loop
-Inv-loop m piece₀ last b₀ t6 piece b = (length piece ≡ 1048576) × (b < 4294967296)
+Inv-loop m piece₀ last b₀ t piece b = length piece ≡ 1048576
 
 abbrev μ-loop : tie.MeasureT-loop
-μ-loop m piece₀ last b₀ t6 piece b = m .s + m .c + 1 - b
+μ-loop m piece₀ last b₀ t piece b = last + 1 - b
+
+-- the last block of a model in range, and 0, are no more than its blocks
+no-more : (x : Bool) (k : ℕ) → cond x k 0 ≤ k
+no-more true k = omega arith
+no-more false k = omega arith
 
 space-requires : tie.Need-space-requires Inv-loop μ-loop
 space-requires c κs = tt
 
-cast-last : tie.Need-cast-last Inv-loop μ-loop
-cast-last c = search needs
-
-cast-last-2 : tie.Need-cast-last-2 Inv-loop μ-loop
-cast-last-2 c = search needs
-
-add-last : tie.Need-add-last Inv-loop μ-loop
-add-last c = search needs
+block-count-requires : tie.Need-block-count-requires Inv-loop μ-loop
+block-count-requires c κs = tt
 
 loop-holds : tie.Need-loop-holds Inv-loop μ-loop
-loop-holds c = ((c .before .before .space .ensures), omega arith)
-
-cast-loop : tie.Need-cast-loop Inv-loop μ-loop
-cast-loop c = let k = c .loop .inv .1 in search needs
+loop-holds c = c .before .space .ensures
 
 slice-aggregate-write-blocks : tie.Need-slice-aggregate-write-blocks Inv-loop μ-loop
-slice-aggregate-write-blocks c = sym (c .before .before .loop .inv .0)
+slice-aggregate-write-blocks c = sym (c .before .before .loop .inv)
 
 write-blocks-requires : tie.Need-write-blocks-requires Inv-loop μ-loop
 write-blocks-requires c κs = tt
@@ -47,10 +43,14 @@ returns : tie.Need-returns Inv-loop μ-loop
 returns c = tt
 
 array-share-prefix-piece : tie.Need-array-share-prefix-piece Inv-loop μ-loop
-array-share-prefix-piece c = omega (arith, run-inside _ _ _ _ _ (c .before .before .before .write-blocks .ensures .0) (c .before .before .before .write-blocks .ensures .1) (c .before .before .before .write-blocks .kept .1 .1 .0), (c .before .before .before .write-blocks .kept .1 .1 .0))
+array-share-prefix-piece c =
+    let w = c .before .before .before .write-blocks in
+    omega (arith, run-inside _ _ _ _ _ (w .ensures .0) (w .ensures .1) (w .kept .1 .1 .0), w .kept .1 .1 .0)
 
 slice-aggregate-write-all : tie.Need-slice-aggregate-write-all Inv-loop μ-loop
-slice-aggregate-write-all c = omega (arith, length-take (c .before .before .before .before .write-blocks .result .length) (c .before .before .before .before .write-blocks .last .1 .1 .0), run-inside _ _ _ _ _ (c .before .before .before .before .write-blocks .ensures .0) (c .before .before .before .before .write-blocks .ensures .1) (c .before .before .before .before .write-blocks .kept .1 .1 .0), (c .before .before .before .before .write-blocks .kept .1 .1 .0))
+slice-aggregate-write-all c =
+    let w = c .before .before .before .before .write-blocks in
+    omega (arith, length-take (w .result .length) (w .last .1 .1 .0), run-inside _ _ _ _ _ (w .ensures .0) (w .ensures .1) (w .kept .1 .1 .0), w .kept .1 .1 .0)
 
 write-all-requires : tie.Need-write-all-requires Inv-loop μ-loop
 write-all-requires c κs = tt
@@ -65,10 +65,16 @@ returns-2 : tie.Need-returns-2 Inv-loop μ-loop
 returns-2 c = tt
 
 loop-less : tie.Need-loop-less Inv-loop μ-loop
-loop-less c = let n = run-moves (c .before .before .before .before .before .before .before .before .before .before .before .before .before .args .m) (c .before .before .before .before .before .before .before .before .before .loop .b) _ _ (c .before .before .before .before .before .before .write-blocks .ensures .0) (c .before .before .before .if1 .left) (c .before .before .before .before .before .before .before .before .loop-test .taken) (omega (arith, (c .before .before .before .before .before .before .before .before .before .loop .inv .0))) in omega (arith, n, (c .before .before .before .before .before .before .before .before .loop-test .taken))
+loop-less c =
+    let m = c .before .before .before .before .before .before .before .before .before .before .before .before .args .m in
+    let k = c .before .before .before .before .before .before .before .before .before .before .block-count .ensures .0 in
+    let h = no-more (inRange m) (blockCount m) in
+    let n = run-moves m (c .before .before .before .before .before .before .before .before .before .loop .b) _ _ (c .before .before .before .before .before .before .write-blocks .ensures .0) (c .before .before .before .if1 .left) (omega (arith, c .before .before .before .before .before .before .before .before .loop-test .taken))
+    (omega (arith, c .before .before .before .before .before .before .before .before .before .loop .inv)) in
+    omega (arith, n, c .before .before .before .before .before .before .before .before .loop-test .taken)
 
 loop-again : tie.Need-loop-again Inv-loop μ-loop
-loop-again c = ((c .before .before .before .before .before .before .write-blocks .kept .1 .1 .0) ∙ (c .before .before .before .before .before .before .before .before .before .loop .inv .0), (c .before .before .before .before .struct-known3 .given .1 .0 .fits))
+loop-again c = c .before .before .before .before .before .before .write-blocks .kept .1 .1 .0 ∙ c .before .before .before .before .before .before .before .before .before .loop .inv
 
 returns-3 : tie.Need-returns-3 Inv-loop μ-loop
 returns-3 c = tt
@@ -80,11 +86,8 @@ list-spec =
     Inv-loop
     μ-loop
     space-requires
-    cast-last
-    cast-last-2
-    add-last
+    block-count-requires
     loop-holds
-    cast-loop
     slice-aggregate-write-blocks
     write-blocks-requires
     refuse-requires

@@ -2,50 +2,51 @@
 use mathlib.Core.Path.{_≡_, ap, _∙_}
 use mathlib.Core.Bool.{Bool, true, false, _||_}
 use mathlib.Core.List.{List, [], _∷_}
-use Prim.Native.Nat.{ℕ, _+_, _-_, _≤_, _<_, min}
+use Prim.Native.Nat.{ℕ, suc, _+_, _-_, _*_, _≤_, _<_, min}
 use native.Mathlib.Omega.{arith}
 use borrow.Author.Tests.{lt-ltb, le-ltb}
-use lib.Dec.{ltb, eqb, leb, eqb→eq, leb→le}
+use lib.Dec.{ltb, eqb, eqb→eq}
 use lib.ListN.{getD, take}
 use Rattle.model.specs.declared.Group.{Group}
 use Rattle.model.specs.Lists.{total}
+use Rattle.model.specs.Limits.{limits}
 use Rattle.model.specs.Totalizer.{outputCountIn, treeOutputCount}
 use Rattle.model.specs.Cnf.{openCount, atLeast, atMost, counted, outputsOf, firstVariable, firstOutput}
 use Rattle.model.proofs.Lists.{every-range}
-use Rattle.numbering.specs.declared.Counter.{Counter}
-use Rattle.numbering.specs.Counter.{counterOf}
+use Rattle.numbering.specs.declared.Totalizer.{Totalizer}
+use Rattle.numbering.specs.Numbering.{totalizerOf}
 
 -- ---- m, L, U and whether there is a totalizer
 
-module _ (g : Group) (free l h : ℕ) (e : free ≡ openCount g) (p : l ≡ atLeast g) (q : h ≡ atMost g) where
-  pub counter-low : 0 < l → record { free = free; low = l; high = h; exists = ltb 0 l } ≡ counterOf g
-  unfolding counterOf counted
-  counter-low k =
+module _ (g : Group) (size l h : ℕ) (e : size ≡ openCount g) (p : l ≡ atLeast g) (q : h ≡ atMost g) where
+  pub totalizer-low : 0 < l → record { size = size; low = l; high = h; exists = ltb 0 l } ≡ totalizerOf g
+  unfolding totalizerOf counted
+  totalizer-low k =
       rw (e, p, q)
-      (ap {B = Counter} (λ b. record { free = openCount g; low = atLeast g; high = atMost g; exists = b })
+      (ap {B = Totalizer} (λ b. record { size = openCount g; low = atLeast g; high = atMost g; exists = b })
       (or-left (ltb 0 (atLeast g)) (ltb (atMost g) (openCount g)) (lt-ltb 0 (atLeast g) (omega arith))))
     where
       or-left : (a b : Bool) → a ≡ true → a ≡ (a || b)
       or-left a b r = rw r
 
-  pub counter-high : l ≤ 0 → record { free = free; low = l; high = h; exists = ltb h free } ≡ counterOf g
-  unfolding counterOf counted
-  counter-high k =
+  pub totalizer-high : l ≤ 0 → record { size = size; low = l; high = h; exists = ltb h size } ≡ totalizerOf g
+  unfolding totalizerOf counted
+  totalizer-high k =
       rw (e, p, q)
-      (ap {B = Counter} (λ b. record { free = openCount g; low = atLeast g; high = atMost g; exists = b })
+      (ap {B = Totalizer} (λ b. record { size = openCount g; low = atLeast g; high = atMost g; exists = b })
       (or-right (ltb 0 (atLeast g)) (ltb (atMost g) (openCount g)) (le-ltb 0 (atLeast g) (omega arith))))
     where
       or-right : (a b : Bool) → a ≡ false → b ≡ (a || b)
       or-right a b r = rw r
 
-module _ (g : Group) (r : Counter) (e : r ≡ counterOf g) where
-  pub counter-parts : (r .free ≡ openCount g) × (r .low ≡ atLeast g) × (r .high ≡ atMost g) × (r .exists ≡ counted g)
-  unfolding counterOf
-  counter-parts = (
-    ap (λ (x : Counter). x .free) e,
-    ap (λ (x : Counter). x .low) e,
-    ap (λ (x : Counter). x .high) e,
-    ap (λ (x : Counter). x .exists) e,
+module _ (g : Group) (r : Totalizer) (e : r ≡ totalizerOf g) where
+  pub totalizer-parts : (r .size ≡ openCount g) × (r .low ≡ atLeast g) × (r .high ≡ atMost g) × (r .exists ≡ counted g)
+  unfolding totalizerOf
+  totalizer-parts = (
+    ap (λ (x : Totalizer). x .size) e,
+    ap (λ (x : Totalizer). x .low) e,
+    ap (λ (x : Totalizer). x .high) e,
+    ap (λ (x : Totalizer). x .exists) e,
   )
 
 pub none-outputs : (g : Group) → counted g ≡ false → outputsOf g ≡ 0
@@ -64,17 +65,18 @@ outputTable =
     ∷ 136 ∷ 142 ∷ 148 ∷ 154 ∷ 160 ∷ 167 ∷ 174 ∷ 181 ∷ 188 ∷ 195 ∷ 202 ∷ 209 ∷ 216 ∷ 223 ∷ 230 ∷ 237 ∷ 244 ∷ 251 ∷ 258 ∷ 265 ∷ 272 ∷ 279 ∷ 286
     ∷ 293 ∷ 300 ∷ 307 ∷ 314 ∷ 321 ∷ 328 ∷ 335 ∷ 342 ∷ 349 ∷ 356 ∷ 363 ∷ 370 ∷ 377 ∷ 384 ∷ []
 
-pub output-table : (m : ℕ) → m ≤ 64 → getD outputTable m 0 ≡ treeOutputCount m
+pub output-table : (m : ℕ) → m ≤ limits .word → getD outputTable m 0 ≡ treeOutputCount m
 unfolding treeOutputCount outputCountIn
 output-table m h =
     eqb→eq (getD outputTable m 0) (treeOutputCount m)
-    (every-range (λ k. eqb (getD outputTable k 0) (treeOutputCount k)) 0 65 tt m (omega arith) (omega arith))
+    (every-range (λ k. eqb (getD outputTable k 0) (treeOutputCount k)) 0 (suc (limits .word)) tt m (omega arith) (omega arith))
 
-pub outputs-few : (m : ℕ) → m ≤ 64 → treeOutputCount m ≤ 384
+-- no more than a square has places
+pub outputs-few : treeOutputCount (limits .word) ≤ limits .word * limits .word
 unfolding treeOutputCount outputCountIn
-outputs-few m h = leb→le (treeOutputCount m) 384 (every-range (λ k. leb (treeOutputCount k) 384) 0 65 tt m (omega arith) (omega arith))
+outputs-few = omega arith
 
-pub within-word : (m : ℕ) → m ≤ 64 → treeOutputCount (min m 64) ≡ treeOutputCount m
+pub within-word : (m : ℕ) → m ≤ limits .word → treeOutputCount (min m (limits .word)) ≡ treeOutputCount m
 within-word m h = ap treeOutputCount (omega arith)
 
 -- ---- the first number of group i + 1

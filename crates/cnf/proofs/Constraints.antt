@@ -1,6 +1,6 @@
 -- A constraint's block over its members: its text, and how many clauses it has. Assumes nothing.
 use mathlib.Core.Path.{_≡_, refl, sym, ap, _∙_}
-use mathlib.Core.List.{List, [], _∷_, map}
+use mathlib.Core.List.{List, [], map, map-map}
 use Prim.Native.Nat.{ℕ, _-_, _≤_, _<_}
 use native.Mathlib.Omega.{arith}
 use lib.ListN.{length, getD, take, length-take, length-map}
@@ -18,7 +18,7 @@ use Rattle.model.specs.Cnf.{variableOf, openOf, membership, termOf, clausesAt, 
 use Rattle.model.specs.Assignment.{variable}
 use Rattle.model.specs.Text.{clauseText}
 use Rattle.model.proofs.Lists.{each-each, each-map, each-range-ext, getD-map-in, places, length-each, total-ext}
-use Rattle.cnf.specs.Parts.{keptText, memberOf, memberTerm, literalTerm, clauseOf, memberClauseText, entrantText, constraintText, keptCount, entrantCount, constraintCount, Within}
+use Rattle.cnf.specs.Parts.{keptText, memberOf, memberTerm, literalTerm, clauseOf, memberClauseText, entrantText, constraintText, keptCount, entrantCount, constraintCount, MembersBelow}
 use Rattle.cnf.proofs.MemberTerms.{values-map}
 
 -- a member's term is what the definition says of its group
@@ -49,11 +49,7 @@ each-places f d xs =
     ∙ each-map f (λ j. getD xs (j - 0) d) (range 0 (length xs))
     ∙ each-range-ext (λ j. f (getD xs (j - 0) d)) (λ j. f (getD xs j d)) 0 (length xs) (λ j _ _. ap (λ (i : ℕ). f (getD xs i d)) (omega arith))
 
-map-map : {A B C : Type 0} (f : B → C) (g : A → B) (xs : List A) → map f (map g xs) ≡ map (λ x. f (g x)) xs
-map-map f g [] = refl
-map-map {A} {B} {C} f g (x ∷ xs) = ap {B = List C} (λ l. f (g x) ∷ l) (map-map f g xs)
-
-module _ (t : List Group) (c : Constraint) (k : ℕ) (few : k ≤ length (c .groups)) (w : Within k (c .code) (c .count)) where
+module _ (t : List Group) (c : Constraint) (k : ℕ) (few : k ≤ length (c .groups)) (w : MembersBelow k (c .code) (c .count)) where
   abbrev keptAt : ℕ → ℕ → List (List Literal)
   keptAt e j = keep (map (literalTerm (known t (c .groups) k e few)) (clauseOf (c .code) (c .count) j))
 
