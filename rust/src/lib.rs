@@ -11,3 +11,4 @@ pub mod proved;
 pub mod refusal;
 pub mod settle;
 pub mod sheet;
+pub mod words;

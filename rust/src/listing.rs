@@ -22,6 +22,17 @@ pub fn write_block(encoding: &Encoding, block: usize, buffer: &mut [u8]) -> Resu
     Ok(text.len())
 }
 
+/// Writes blocks from `block` on as long as they fit, and gives the first that is not written and the text's length. Refused as its first block is.
+pub fn write_blocks(encoding: &Encoding, block: usize, buffer: &mut [u8]) -> Result<(usize, usize), u32> {
+    let mut length = write_block(encoding, block, buffer)?;
+    let mut next = block + 1;
+    while let Ok(more) = write_block(encoding, next, &mut buffer[length..]) {
+        length += more;
+        next += 1;
+    }
+    Ok((next, length))
+}
+
 fn push_block(encoding: &Encoding, block: usize, text: &mut Vec<u8>) {
     if block == 0 {
         push_header(encoding, text);

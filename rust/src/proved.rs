@@ -5,8 +5,12 @@ extern "C" {
     fn draw_read(sheet: *const u8, sheet_len: usize) -> u64;
     fn draw_settle(sheet: *const u8, sheet_len: usize, table: *mut u64, table_len: usize) -> u64;
     fn draw_block(sheet: *const u8, sheet_len: usize, block: u32, buffer: *mut u8, buffer_len: usize) -> u64;
+    fn draw_blocks(sheet: *const u8, sheet_len: usize, block: u32, buffer: *mut u8, buffer_len: usize) -> u64;
     fn draw_line(closed: u32, line: *const u8, line_len: usize, marks: *mut u8, marks_len: usize) -> u32;
     fn draw_close(sheet: *const u8, sheet_len: usize, closed: u32, marks: *const u8, marks_len: usize, groups: *mut u64, groups_len: usize) -> u32;
+    fn draw_settle_model(words: *const u64, words_len: usize, table: *mut u64, table_len: usize) -> u64;
+    fn draw_block_model(words: *const u64, words_len: usize, block: u32, buffer: *mut u8, buffer_len: usize) -> u64;
+    fn draw_close_model(words: *const u64, words_len: usize, closed: u32, marks: *const u8, marks_len: usize, groups: *mut u64, groups_len: usize) -> u32;
 }
 
 pub struct Proved;
@@ -25,11 +29,26 @@ impl Calls for Proved {
         unsafe { draw_block(sheet.as_ptr(), sheet.len(), block, buffer.as_mut_ptr(), buffer.len()) }
     }
 
+    fn blocks(&self, sheet: &[u8], block: u32, buffer: &mut [u8]) -> u64 {
+        unsafe { draw_blocks(sheet.as_ptr(), sheet.len(), block, buffer.as_mut_ptr(), buffer.len()) }
+    }
+
     fn line(&self, closed: u32, line: &[u8], marks: &mut [u8]) -> u32 {
         unsafe { draw_line(closed, line.as_ptr(), line.len(), marks.as_mut_ptr(), marks.len()) }
     }
 
     fn close(&self, sheet: &[u8], closed: u32, marks: &[u8], groups: &mut [u64]) -> u32 {
         unsafe { draw_close(sheet.as_ptr(), sheet.len(), closed, marks.as_ptr(), marks.len(), groups.as_mut_ptr(), groups.len()) }
+    }
+    fn settle_model(&self, words: &[u64], table: &mut [u64]) -> u64 {
+        unsafe { draw_settle_model(words.as_ptr(), words.len(), table.as_mut_ptr(), table.len()) }
+    }
+
+    fn block_model(&self, words: &[u64], block: u32, buffer: &mut [u8]) -> u64 {
+        unsafe { draw_block_model(words.as_ptr(), words.len(), block, buffer.as_mut_ptr(), buffer.len()) }
+    }
+
+    fn close_model(&self, words: &[u64], closed: u32, marks: &[u8], groups: &mut [u64]) -> u32 {
+        unsafe { draw_close_model(words.as_ptr(), words.len(), closed, marks.as_ptr(), marks.len(), groups.as_mut_ptr(), groups.len()) }
     }
 }

@@ -14,7 +14,9 @@ pub const FORM: u32 = 10;
 pub const ABOVE: u32 = 11;
 pub const SAID: u32 = 12;
 
+pub const OUT_OF_RANGE: u32 = 20;
 pub const CONTRADICTION: u32 = 21;
+pub const UNSETTLED: u32 = 22;
 pub const NO_BLOCK: u32 = 23;
 pub const SHORT_BUFFER: u32 = 24;
 pub const CLOSED: u32 = 25;

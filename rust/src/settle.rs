@@ -1,8 +1,9 @@
 //! Settling: group rule and line rule, pass after pass, until nothing changes.
 use crate::clauses::Literal;
 use crate::model::{Constraint, Group, Model};
+use crate::refusal::UNSETTLED;
 
-/// A model that no pass changes. Only `settle` makes one, so the listing and the closing need no refusal 20 or 22.
+/// A model in range that no pass changes. Only this file makes one, so that listing and closing need not judge 20 and 22 again.
 #[derive(Debug, PartialEq, Eq)]
 pub struct Settled {
     model: Model,
@@ -10,6 +11,16 @@ pub struct Settled {
 }
 
 impl Settled {
+    /// A model in range taken as settled, or refusal 22: a pass would change it or end in 21.
+    pub fn given(model: Model) -> Result<Settled, u32> {
+        let mut groups = model.groups.clone();
+        let changed = pass(model.everyone(), &mut groups, &model.constraints);
+        if changed || groups.iter().any(contradictory) {
+            return Err(UNSETTLED);
+        }
+        Ok(Settled { model, passes: 1 })
+    }
+
     pub fn model(&self) -> &Model {
         &self.model
     }

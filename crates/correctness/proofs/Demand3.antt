@@ -27,7 +27,7 @@ use Rattle.propagation_laws.proofs.Propagation.{Propagation, Reordered}
 use Rattle.propagation_laws.proofs.Sheets.{Accurate, accurate, order-accepted, sheet-propagation}
 use Rattle.encoding_laws.proofs.Groups.{clauses-length}
 use Rattle.encoding_laws.proofs.Ranges.{In, variables-in}
-use Rattle.encoding_laws.proofs.Bounds.{block-bound}
+use Rattle.encoding_laws.proofs.Bounds.{variables-bound, block-bound}
 use Rattle.encoding_laws.proofs.Nonempty.{no-empty-clause}
 use Rattle.encoding_laws.proofs.Text.{header-reads, listing-reads}
 use Rattle.encoding_laws.proofs.Whole.{OneForOne, one-for-one}
@@ -117,6 +117,7 @@ listed q s = record {
   header = header-reads q;
   reads = listing-reads q s;
   count = clauses-length q (s .sized);
+  few = variables-bound q s;
   variables = between-all (variableCount q) (clauses q) (variables-in q s);
 }
 

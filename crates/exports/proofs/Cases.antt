@@ -1,17 +1,18 @@
 -- The refusals of reading and settling decide which case of a definition is answered. Assumes nothing.
 use mathlib.Core.Path.{_≡_, refl}
 use mathlib.Core.Bool.{Bool, true, false, cond}
-use mathlib.Core.List.{List}
-use Prim.Native.Nat.{ℕ, _*_, _≤_}
+use mathlib.Core.List.{List, _++_}
+use Prim.Native.Nat.{ℕ, _*_, _≤_, _<_}
 use native.Mathlib.Omega.{arith}
-use borrow.Author.Tests.{ne-eqb, eqb-false}
+use borrow.Author.Tests.{ne-eqb, eqb-false, lt-ltb, le-ltb}
 use lib.Dec.{eqb}
-use lib.ListN.{replicate}
+use lib.ListN.{length, take, drop}
 use Rattle.model.specs.declared.Group.{Group}
 use Rattle.model.specs.declared.Model.{Model}
 use Rattle.model.specs.declared.SheetRead.{SheetRead}
 use Rattle.model.specs.declared.Propagated.{Propagated}
 use Rattle.model.specs.declared.Written.the-variants.{Refused}
+use Rattle.model.specs.declared.Closed.{Closed}
 use Rattle.model.specs.Lists.{each}
 use Rattle.model.specs.Limits.{limits}
 use Rattle.model.specs.Model.{tableOf, withTable, inRange}
@@ -21,7 +22,8 @@ use Rattle.model.specs.Text.{writtenBlock, blockBuffer}
 use Rattle.model.specs.Close.{closed}
 use Rattle.model.proofs.Lists.{true-T}
 use Rattle.propagation_laws.proofs.Ranges.{in-range}
-use Rattle.exports.specs.Draw.{numbered, settledSheet, drawSettle, groupWords, laidIn, drawTable, sheetBlock, writtenNumber, drawBlock, drawBuffer, readingOf, closedSheet}
+use Rattle.exports.specs.Words.{groupWords}
+use Rattle.exports.specs.Draw.{numbered, settledSheet, fitted, settleNumber, tableAfter, sheetBlock, writtenNumber, drawBlock, drawBuffer, readingOf, noGroups, closedSheet, fittedClosing, groupsAfter}
 
 -- ---- the reader's refusal comes first
 
@@ -36,7 +38,7 @@ module _ (b : List ℕ) (r : SheetRead) (e : r ≡ readSheet b) where
 
 -- ---- a settled model has no more groups than a sheet
 
-few-propagated : (m : Model) → propagated m .refusal ≡ 0 → propagated m .model .s ≤ limits .groups
+pub few-propagated : (m : Model) → propagated m .refusal ≡ 0 → propagated m .model .s ≤ limits .groups
 unfolding propagated refusedPropagation withTable
 few-propagated m = go (inRange m) refl (outcome m)
   where
@@ -46,7 +48,7 @@ few-propagated m = go (inRange m) refl (outcome m)
     go true q contradiction z = absurd (omega arith)
     go true q (fixpoint k t) z = in-range m (true-T (inRange m) q) .groupCount
 
-few-settled : (b : List ℕ) → settledSheet b .refusal ≡ 0 → settledSheet b .model .s ≤ limits .groups
+pub few-settled : (b : List ℕ) → settledSheet b .refusal ≡ 0 → settledSheet b .model .s ≤ limits .groups
 unfolding settledSheet refusedPropagation
 few-settled b = go (readSheet b) (eqb (readSheet b .refusal) 0) refl
   where
@@ -56,18 +58,41 @@ few-settled b = go (readSheet b) (eqb (readSheet b .refusal) 0) refl
     go r true q z = few-propagated (r .model) z
     go r false q z = absurd (eqb-false (r .refusal) 0 q z)
 
--- ---- what settling answers
+-- ---- what settling answers, for a slice of so many words
+
+module _ (p : Propagated) (table : List ℕ) where
+  unfit : (p .refusal ≡ 0 → ⊥) → fitted (length table) p ≡ p
+  unfolding fitted
+  unfit h = rw (ne-eqb (p .refusal) 0 h)
+
+  pub refused-number : (p .refusal ≡ 0 → ⊥) → numbered (p .refusal) (p .passes) ≡ settleNumber (fitted (length table) p)
+  refused-number h = rw (unfit h)
+
+  pub refused-table : (p .refusal ≡ 0 → ⊥) → table ≡ tableAfter (fitted (length table) p) table
+  refused-table h = rw (unfit h, ne-eqb (p .refusal) 0 h)
+
+  module _ (z : p .refusal ≡ 0) where
+    pub short-number : length table < 4 * p .model .s → numbered 24 0 ≡ settleNumber (fitted (length table) p)
+    unfolding fitted refusedPropagation
+    short-number h = rw (z, lt-ltb (length table) (4 * p .model .s) h)
+
+    pub short-table : length table < 4 * p .model .s → table ≡ tableAfter (fitted (length table) p) table
+    unfolding fitted refusedPropagation
+    short-table h = rw (z, lt-ltb (length table) (4 * p .model .s) h)
+
+    pub laid-number : 4 * p .model .s ≤ length table → numbered (p .refusal) (p .passes) ≡ settleNumber (fitted (length table) p)
+    unfolding fitted
+    laid-number h = rw (z, le-ltb (length table) (4 * p .model .s) h)
+
+    pub laid-table : 4 * p .model .s ≤ length table
+        → each groupWords (take (p .model .s) (p .model .groups)) ++ drop (4 * p .model .s) table ≡ tableAfter (fitted (length table) p) table
+    unfolding fitted tableOf
+    laid-table h = rw (z, le-ltb (length table) (4 * p .model .s) h)
+
+-- ---- what a block and closing answer
 
 module _ (b : List ℕ) (p : Propagated) (e : p ≡ settledSheet b) where
-  pub settle-number : numbered (p .refusal) (p .passes) ≡ drawSettle b
-  unfolding drawSettle
-  settle-number = rw (← e)
-
   module _ (h : p .refusal ≡ 0 → ⊥) where
-    pub table-left : (table : List ℕ) → table ≡ drawTable b table
-    unfolding drawTable
-    table-left table = rw (← e, ne-eqb (p .refusal) 0 h)
-
     pub block-refused : (block room : ℕ) → writtenNumber (Refused (p .refusal)) ≡ drawBlock b block room
     unfolding drawBlock sheetBlock
     block-refused block room = rw (← e, ne-eqb (p .refusal) 0 h)
@@ -76,18 +101,11 @@ module _ (b : List ℕ) (p : Propagated) (e : p ≡ settledSheet b) where
     unfolding drawBuffer
     buffer-left block buffer = rw (← e, ne-eqb (p .refusal) 0 h)
 
-    pub closing-refused : (flag : ℕ) (values : List ℕ) → record { refusal = p .refusal; groups = replicate (limits .groups) 0 } ≡ closedSheet b flag values
+    pub closing-refused : (flag : ℕ) (values : List ℕ) → noGroups (p .refusal) ≡ closedSheet b flag values
     unfolding closedSheet
     closing-refused flag values = rw (← e, ne-eqb (p .refusal) 0 h)
 
   module _ (z : p .refusal ≡ 0) where
-    pub few-groups : p .model .s ≤ limits .groups
-    few-groups = rw e (few-settled b (rw e at z))
-
-    pub table-laid : (table : List ℕ) → laidIn (4 * p .model .s) (each groupWords (tableOf (p .model))) table ≡ drawTable b table
-    unfolding drawTable
-    table-laid table = rw (← e, z)
-
     pub block-written : (block room : ℕ) → writtenNumber (writtenBlock (p .model) block room) ≡ drawBlock b block room
     unfolding drawBlock sheetBlock
     block-written block room = rw (← e, z)
@@ -99,3 +117,33 @@ module _ (b : List ℕ) (p : Propagated) (e : p ≡ settledSheet b) where
     pub closing : (flag : ℕ) (values : List ℕ) → closed (p .model) (readingOf flag) values ≡ closedSheet b flag values
     unfolding closedSheet
     closing flag values = rw (← e, z)
+
+-- ---- closing, for a slice of so many words
+
+module _ (a : Closed) (groups : List ℕ) where
+  unfit-closing : (a .refusal ≡ 0 → ⊥) → fittedClosing (length groups) a ≡ a
+  unfolding fittedClosing
+  unfit-closing h = rw (ne-eqb (a .refusal) 0 h)
+
+  pub refused-closing : (a .refusal ≡ 0 → ⊥) → a .refusal ≡ fittedClosing (length groups) a .refusal
+  refused-closing h = rw (unfit-closing h)
+
+  pub refused-groups : (a .refusal ≡ 0 → ⊥) → groups ≡ groupsAfter (fittedClosing (length groups) a) groups
+  refused-groups h = rw (unfit-closing h, ne-eqb (a .refusal) 0 h)
+
+  module _ (z : a .refusal ≡ 0) where
+    pub short-closing : length groups < limits .groups → 24 ≡ fittedClosing (length groups) a .refusal
+    unfolding fittedClosing
+    short-closing h = rw (z, lt-ltb (length groups) (limits .groups) h)
+
+    pub short-groups : length groups < limits .groups → groups ≡ groupsAfter (fittedClosing (length groups) a) groups
+    unfolding fittedClosing
+    short-groups h = rw (z, lt-ltb (length groups) (limits .groups) h)
+
+    pub laid-closing : limits .groups ≤ length groups → a .refusal ≡ fittedClosing (length groups) a .refusal
+    unfolding fittedClosing
+    laid-closing h = rw (z, le-ltb (length groups) (limits .groups) h)
+
+    pub laid-groups : limits .groups ≤ length groups → a .groups ++ drop (limits .groups) groups ≡ groupsAfter (fittedClosing (length groups) a) groups
+    unfolding fittedClosing
+    laid-groups h = rw (z, le-ltb (length groups) (limits .groups) h)

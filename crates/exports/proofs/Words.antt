@@ -1,17 +1,18 @@
--- Words laid at the front of a slice: a group's four at a time. Assumes nothing.
+-- Words laid at the front of a slice, a group's four at a time, and arrays made from words. Assumes nothing.
 use mathlib.Core.Path.{_≡_, refl, sym, ap, _∙_}
-use mathlib.Core.List.{List, [], _∷_, _++_, append-nil}
+use mathlib.Core.List.{List, [], _∷_, _++_, map, append-nil}
 use Prim.Native.Nat.{ℕ, suc, _+_, _*_, _≤_, _<_}
+use native.Mathlib.Nat.{zero-add}
 use native.Mathlib.Numerals.{add-one}
 use native.Mathlib.Omega.{arith}
-use borrow.Author.Tests.{le-leb, lt-leb}
-use lib.ListN.{length, getD, take, drop, set, length-append, length-drop}
+use lib.ListN.{length, getD, take, drop, set, length-append, length-drop, length-set}
 use lib.Seq.{sets, sets-eq, take-suc, take-all, take-at, drop-append-add, drop-drop, length-take-le}
 use Rattle.model.specs.declared.Group.{Group}
-use Rattle.model.specs.Lists.{each}
+use Rattle.model.specs.Lists.{each, range}
 use Rattle.model.specs.Limits.{limits}
-use Rattle.model.proofs.Lists.{each-append, seam-next}
-use Rattle.exports.specs.Draw.{groupWords, laidIn}
+use Rattle.model.proofs.Lists.{each-append, seam-next, range-length, range-getD}
+use Rattle.numbering.proofs.Arrays.{fill-next}
+use Rattle.exports.specs.Words.{groupWords}
 
 -- words stored after others that stand at the front
 after-front : (a ws xs : List ℕ) (at : ℕ) → length a ≡ at → at + length ws ≤ length xs
@@ -77,16 +78,6 @@ module _ (gs : List Group) (s : ℕ) (xs table : List ℕ) (i : ℕ) (l : Laying
   pub laying-end : s ≤ i → table ≡ front gs xs s
   laying-end h = let e : i ≡ s = omega (arith, l .passed) in rw (← e) (l .words)
 
--- ---- laid in a slice that has room
-
-pub laid : (k : ℕ) (words slice : List ℕ) → k ≤ length slice → words ++ drop k slice ≡ laidIn k words slice
-unfolding laidIn
-laid k words slice h = rw (le-leb k (length slice) h)
-
-pub not-laid : (k : ℕ) (words slice : List ℕ) → length slice < k → slice ≡ laidIn k words slice
-unfolding laidIn
-not-laid k words slice h = rw (lt-leb k (length slice) h)
-
 -- ---- a copy, word by word
 
 -- a slice that held xs, after i of the words
@@ -110,10 +101,31 @@ module _ (words xs now : List ℕ) (i : ℕ) (c : Copying words xs now i) where
     copied = rw (c .copied) (seam-next words xs i 0 (omega (arith, c .whole)) (omega (arith, c .room)));
   }
 
-  pub copying-end : limits .groups ≤ i → now ≡ laidIn (limits .groups) words xs
+  pub copying-end : limits .groups ≤ i → now ≡ words ++ drop (limits .groups) xs
   copying-end h =
       let e : i ≡ limits .groups = omega (arith, c .passed) in
       c .copied
       ∙ ap (λ (j : ℕ). take j words ++ drop j xs) e
       ∙ ap (λ (l : List ℕ). l ++ drop (limits .groups) xs) (take-all (limits .groups) words (omega (arith, c .whole)))
-      ∙ laid (limits .groups) words xs (c .room)
+
+-- ---- an array made from words, place by place
+
+-- k places, the first i of them filled
+pub record Filling {A : Type 0} (f : ℕ → A) (k : ℕ) (r : List A) (i : ℕ) : Type 0 where
+  pub passed : i ≤ k
+  pub whole : length r ≡ k
+  pub filled : take i r ≡ map f (take i (range 0 k))
+
+module _ {A : Type 0} (f : ℕ → A) (k : ℕ) (r : List A) (i : ℕ) (h : Filling f k r i) where
+  pub filling-next : (x : A) → i < k → x ≡ f i → Filling f k (set r i x) (i + 1)
+  filling-next x l e = record {
+    passed = omega arith;
+    whole = length-set r i x ∙ h .whole;
+    filled =
+        fill-next f (range 0 k) r i 0 x (omega (arith, range-length 0 k)) (omega (arith, h .whole)) (h .filled)
+        (e ∙ ap f (sym (range-getD 0 k i 0 l ∙ zero-add i)));
+  }
+
+  pub filling-end : k ≤ i → r ≡ map f (range 0 k)
+  filling-end l =
+      sym (take-all i r (omega (arith, h .whole))) ∙ h .filled ∙ ap (map f) (take-all i (range 0 k) (omega (arith, range-length 0 k)))

@@ -1,10 +1,9 @@
 -- What the exported functions answer, each as one number, and what they leave in the slices lent to them.
 use Prim.Native.Nat.{ℕ, _+_, _*_}
-use mathlib.Core.Bool.{cond, not}
-use mathlib.Core.List.{List, [], _∷_, _++_}
-use lib.Dec.{leb, eqb}
+use mathlib.Core.Bool.{cond, not, _&&_}
+use mathlib.Core.List.{List, _++_}
+use lib.Dec.{ltb, eqb}
 use lib.ListN.{length, drop, replicate}
-use Rattle.model.specs.declared.Group.{Group}
 use Rattle.model.specs.declared.Propagated.{Propagated}
 use Rattle.model.specs.declared.Written.{Written}
 use Rattle.model.specs.declared.Written.the-variants.{Refused}
@@ -19,6 +18,7 @@ use Rattle.model.specs.Propagate.{propagated, refusedPropagation}
 use Rattle.model.specs.Text.{writtenBlock, blockBuffer, writtenRefusal, writtenLength}
 use Rattle.model.specs.Assignment.{lineRead}
 use Rattle.model.specs.Close.{closed}
+use Rattle.exports.specs.Words.{groupWords, modelFrom}
 
 -- a refusal and a line, or a refusal and passes, in one number
 abbrev pub numbered : ℕ → ℕ → ℕ
@@ -31,26 +31,35 @@ drawRead sheet = numbered (readSheet sheet .refusal) (readSheet sheet .line)
 
 -- ---- settling
 
+-- the answer for a slice of so many words: one without room for the table is 24
+unfoldable pub fitted : ℕ → Propagated → Propagated
+fitted room p = cond (eqb (p .refusal) 0 && ltb room (4 * p .model .s)) (refusedPropagation 24 (p .model)) p
+
+abbrev pub settleNumber : Propagated → ℕ
+settleNumber p = numbered (p .refusal) (p .passes)
+
+-- the table's words at the front; a refusal leaves the slice
+abbrev pub tableAfter : Propagated → List ℕ → List ℕ
+tableAfter p table = cond (eqb (p .refusal) 0) (each groupWords (tableOf (p .model)) ++ drop (4 * p .model .s) table) table
+
 -- the sheet's model settled, or the refusal of the reader or of propagation
 unfoldable pub settledSheet : List ℕ → Propagated
 settledSheet sheet =
     let r = readSheet sheet in
     cond (eqb (r .refusal) 0) (propagated (r .model)) (refusedPropagation (r .refusal) (r .model))
 
-unfoldable pub drawSettle : List ℕ → ℕ
-drawSettle sheet = numbered (settledSheet sheet .refusal) (settledSheet sheet .passes)
-
-abbrev pub groupWords : Group → List ℕ
-groupWords g = g .fixed ∷ g .possible ∷ g .low ∷ g .high ∷ []
-
--- k words at the front of a slice that has room for them; a shorter one stays
-unfoldable pub laidIn : ℕ → List ℕ → List ℕ → List ℕ
-laidIn k words slice = cond (leb k (length slice)) (words ++ drop k slice) slice
+unfoldable pub drawSettle : List ℕ → ℕ → ℕ
+drawSettle sheet room = settleNumber (fitted room (settledSheet sheet))
 
 unfoldable pub drawTable : List ℕ → List ℕ → List ℕ
-drawTable sheet table =
-    let p = settledSheet sheet in
-    cond (eqb (p .refusal) 0) (laidIn (4 * p .model .s) (each groupWords (tableOf (p .model))) table) table
+drawTable sheet table = tableAfter (fitted (length table) (settledSheet sheet)) table
+
+-- the same of a model
+unfoldable pub modelSettle : List ℕ → ℕ → ℕ
+modelSettle words room = settleNumber (fitted room (propagated (modelFrom words)))
+
+unfoldable pub modelTable : List ℕ → List ℕ → List ℕ
+modelTable words table = tableAfter (fitted (length table) (propagated (modelFrom words))) table
 
 -- ---- a block of the settled sheet
 
@@ -71,6 +80,10 @@ drawBuffer sheet block buffer =
     let p = settledSheet sheet in
     cond (eqb (p .refusal) 0) (blockBuffer (p .model) block buffer) buffer
 
+-- and of a model
+unfoldable pub modelBlock : List ℕ → ℕ → ℕ → ℕ
+modelBlock words block room = writtenNumber (writtenBlock (modelFrom words) block room)
+
 -- ---- a solver line
 
 -- any number but 0 is a closed reading
@@ -86,14 +99,31 @@ drawLine closed line values = lineNumber (lineRead (readingOf closed) line value
 
 -- ---- closing on the settled sheet
 
+abbrev pub noGroups : ℕ → Closed
+noGroups refusal = record { refusal = refusal; groups = replicate (limits .groups) 0 }
+
+-- the answer for a slice of so many words: one without room for the groups is 24
+unfoldable pub fittedClosing : ℕ → Closed → Closed
+fittedClosing room a = cond (eqb (a .refusal) 0 && ltb room (limits .groups)) (noGroups 24) a
+
+-- the groups at the front; a refusal leaves the slice
+abbrev pub groupsAfter : Closed → List ℕ → List ℕ
+groupsAfter a groups = cond (eqb (a .refusal) 0) (a .groups ++ drop (limits .groups) groups) groups
+
 unfoldable pub closedSheet : List ℕ → ℕ → List ℕ → Closed
 closedSheet sheet flag values =
     let p = settledSheet sheet in
-    cond (eqb (p .refusal) 0) (closed (p .model) (readingOf flag) values)
-    (record { refusal = p .refusal; groups = replicate (limits .groups) 0 })
+    cond (eqb (p .refusal) 0) (closed (p .model) (readingOf flag) values) (noGroups (p .refusal))
 
-unfoldable pub drawClose : List ℕ → ℕ → List ℕ → ℕ
-drawClose sheet flag values = closedSheet sheet flag values .refusal
+unfoldable pub drawClose : List ℕ → ℕ → List ℕ → ℕ → ℕ
+drawClose sheet flag values room = fittedClosing room (closedSheet sheet flag values) .refusal
 
 unfoldable pub drawGroups : List ℕ → ℕ → List ℕ → List ℕ → List ℕ
-drawGroups sheet flag values groups = laidIn (limits .groups) (closedSheet sheet flag values .groups) groups
+drawGroups sheet flag values groups = groupsAfter (fittedClosing (length groups) (closedSheet sheet flag values)) groups
+
+-- the same of a model
+unfoldable pub modelClose : List ℕ → ℕ → List ℕ → ℕ → ℕ
+modelClose words flag values room = fittedClosing room (closed (modelFrom words) (readingOf flag) values) .refusal
+
+unfoldable pub modelGroups : List ℕ → ℕ → List ℕ → List ℕ → List ℕ
+modelGroups words flag values groups = groupsAfter (fittedClosing (length groups) (closed (modelFrom words) (readingOf flag) values)) groups

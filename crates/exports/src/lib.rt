@@ -1,15 +1,17 @@
 // What a Rust program calls: each entry on numbers and slices, its answer as one number.
 ghost use mathlib.Core.Path.{_≡_};
-ghost use Prim.Native.Nat.{_+_, _*_, _≤_};
-ghost use mathlib.Core.List.{_++_};
+ghost use Prim.Native.Nat.{_+_, _*_, _≤_, _<_};
+ghost use mathlib.Core.List.{_++_, map};
 ghost use lib.ListN.{length, take, drop};
 ghost use lib.Seq.{sets};
-ghost use Rattle.model.specs.Lists.{each};
+ghost use Rattle.model.specs.Lists.{each, range};
 ghost use Rattle.model.specs.Limits.{limits};
-ghost use Rattle.model.specs.Model.{tableOf};
 ghost use Rattle.model.specs.Assignment.{valuesAfter};
-ghost use Rattle.exports.specs.Draw.{numbered, drawRead, settledSheet, drawSettle, groupWords, laidIn, drawTable, writtenNumber, drawBlock, drawBuffer, readingOf, lineNumber, drawLine, closedSheet, drawClose, drawGroups};
+ghost use Rattle.model.specs.Text.{blockBuffer};
+ghost use Rattle.exports.specs.Words.{groupWords, wordAt, numberAt, groupFrom, membersFrom, constraintFrom, modelFrom};
+ghost use Rattle.exports.specs.Draw.{numbered, drawRead, settledSheet, fitted, settleNumber, tableAfter, drawSettle, drawTable, modelSettle, modelTable, writtenNumber, drawBlock, drawBuffer, modelBlock, readingOf, lineNumber, drawLine, closedSheet, fittedClosing, groupsAfter, drawClose, drawGroups, modelClose, modelGroups};
 use model::Closed;
+use model::Constraint;
 use model::Group;
 use model::LineRead;
 use model::Model;
@@ -32,6 +34,115 @@ pub extern "C" fn draw_read(sheet: &[u8]) -> u64
     let r = sheet::read_sheet(sheet);
     numbered(r.refusal, r.line)
 }
+
+// ---- a model as words
+
+// Word i, or 0 where it is missing.
+fn word_at(words: &[u64], i: usize) -> u64
+    ensures { λ r. ⌜ r ≡ wordAt (now (words .entry)) i ⌝ }
+{
+    if i < words.len() {
+        return words[i];
+    }
+    0
+}
+
+// Its last 32 bits.
+fn number_at(words: &[u64], i: usize) -> u32
+    ensures { λ r. ⌜ r ≡ numberAt (now (words .entry)) i ⌝ }
+{
+    let w = word_at(words, i);
+    (w % 4294967296) as u32
+}
+
+fn group_from(words: &[u64], i: usize) -> Group
+    requires { ⌜ i < limits .groups ⌝ }
+    ensures { λ r. ⌜ r ≡ groupFrom (now (words .entry)) i ⌝ }
+{
+    let at = 3 + 4 * i;
+    Group {
+        fixed: word_at(words, at),
+        possible: word_at(words, at + 1),
+        low: number_at(words, at + 2),
+        high: number_at(words, at + 3),
+    }
+}
+
+fn groups_from(words: &[u64]) -> [Group; Model::GROUPS]
+    ensures { λ r. ⌜ r ≡ map (groupFrom (now (words .entry))) (range 0 (limits .groups)) ⌝ }
+{
+    let none = Group {
+        fixed: 0,
+        possible: 0,
+        low: 0,
+        high: 0,
+    };
+    let mut groups = [none; Model::GROUPS];
+    let mut i: usize = 0;
+    while i < Model::GROUPS {
+        groups[i] = group_from(words, i);
+        i += 1;
+    }
+    groups
+}
+
+// The groups of a constraint whose words stand from `at` on.
+fn members_from(words: &[u64], at: usize) -> [u32; Model::MEMBERS]
+    requires { ⌜ at ≤ 65536 ⌝ }
+    ensures { λ r. ⌜ r ≡ membersFrom (now (words .entry)) at ⌝ }
+{
+    let mut members = [0u32; Model::MEMBERS];
+    let mut i: usize = 0;
+    while i < Model::MEMBERS {
+        members[i] = number_at(words, at + i);
+        i += 1;
+    }
+    members
+}
+
+fn constraint_from(words: &[u64], i: usize) -> Constraint
+    requires { ⌜ i < limits .constraints ⌝ }
+    ensures { λ r. ⌜ r ≡ constraintFrom (now (words .entry)) i ⌝ }
+{
+    let at = 3 + 4 * Model::GROUPS + (2 + Model::MEMBERS) * i;
+    Constraint {
+        code: number_at(words, at),
+        count: number_at(words, at + 1),
+        groups: members_from(words, at + 2),
+    }
+}
+
+fn constraints_from(words: &[u64]) -> [Constraint; Model::CONSTRAINTS]
+    ensures { λ r. ⌜ r ≡ map (constraintFrom (now (words .entry))) (range 0 (limits .constraints)) ⌝ }
+{
+    let none = Constraint {
+        code: 0,
+        count: 0,
+        groups: [0; Model::MEMBERS],
+    };
+    let mut constraints = [none; Model::CONSTRAINTS];
+    let mut i: usize = 0;
+    while i < Model::CONSTRAINTS {
+        constraints[i] = constraint_from(words, i);
+        i += 1;
+    }
+    constraints
+}
+
+// A model out of range, too, so that a caller can have it refused.
+fn model_from(words: &[u64]) -> Model
+    ensures { λ r. ⌜ r ≡ modelFrom (now (words .entry)) ⌝ }
+{
+    Model {
+        n: number_at(words, 0),
+        s: number_at(words, 1),
+        c: number_at(words, 2),
+        groups: groups_from(words),
+        constraints: constraints_from(words),
+    }
+}
+
+// ---- settling
 
 // The settled model of a sheet; or the refusal of the reader or of settling.
 fn settled(sheet: &[u8]) -> Propagated
@@ -73,32 +184,42 @@ fn put_groups(groups: [Group; Model::GROUPS], s: usize, table: &mut [u64])
     }
 }
 
-// The words of a model's groups, where the table has room for them.
-fn put_table(m: Model, table: &mut [u64])
-    requires { ⌜ m .s ≤ limits .groups ⌝ }
-    ensures { λ r. ⌜ now (table .exit) ≡ laidIn (4 * m .s) (each groupWords (tableOf m)) (now (table .entry)) ⌝ }
+// Settling's number, refusal * 65536 + passes, and the words of the settled table. A table without room for them is 24.
+fn settle_number(p: Propagated, table: &mut [u64]) -> u64
+    requires { ⌜ (p .refusal ≡ 0 → p .model .s ≤ limits .groups) ⌝ }
+    ensures { λ r. ⌜ r ≡ settleNumber (fitted (length (now (table .entry))) p) ⌝ }
+    ensures { λ r. ⌜ now (table .exit) ≡ tableAfter (fitted (length (now (table .entry))) p) (now (table .entry)) ⌝ }
 {
-    let s = m.s as usize;
-    if table.len() < 4 * s {
-        return;
-    }
-    let groups = m.groups;
-    put_groups(groups, s, table);
-}
-
-// Settling: refusal * 65536 + passes, and the words of the settled table.
-#[no_mangle]
-pub extern "C" fn draw_settle(sheet: &[u8], table: &mut [u64]) -> u64
-    ensures { λ r. ⌜ r ≡ drawSettle (now (sheet .entry)) ⌝ }
-    ensures { λ r. ⌜ now (table .exit) ≡ drawTable (now (sheet .entry)) (now (table .entry)) ⌝ }
-{
-    let p = settled(sheet);
     if p.refusal != 0 {
         return numbered(p.refusal, p.passes);
     }
     let m = p.model;
-    put_table(m, table);
+    let s = m.s as usize;
+    if table.len() < 4 * s {
+        return numbered(24, 0);
+    }
+    let groups = m.groups;
+    put_groups(groups, s, table);
     numbered(p.refusal, p.passes)
+}
+
+#[no_mangle]
+pub extern "C" fn draw_settle(sheet: &[u8], table: &mut [u64]) -> u64
+    ensures { λ r. ⌜ r ≡ drawSettle (now (sheet .entry)) (length (now (table .entry))) ⌝ }
+    ensures { λ r. ⌜ now (table .exit) ≡ drawTable (now (sheet .entry)) (now (table .entry)) ⌝ }
+{
+    let p = settled(sheet);
+    settle_number(p, table)
+}
+
+#[no_mangle]
+pub extern "C" fn draw_settle_model(words: &[u64], table: &mut [u64]) -> u64
+    ensures { λ r. ⌜ r ≡ modelSettle (now (words .entry)) (length (now (table .entry))) ⌝ }
+    ensures { λ r. ⌜ now (table .exit) ≡ modelTable (now (words .entry)) (now (table .entry)) ⌝ }
+{
+    let m = model_from(words);
+    let p = propagate::propagate(m);
+    settle_number(p, table)
 }
 
 // A refusal and a length in one number: a written block has refusal 0, so its length alone has to fit.
@@ -122,6 +243,16 @@ pub extern "C" fn draw_block(sheet: &[u8], block: u32, buffer: &mut [u8]) -> u64
         return written_number(Written::Refused(p.refusal));
     }
     let m = p.model;
+    let w = cnf::write_block(m, block, buffer);
+    written_number(w)
+}
+
+#[no_mangle]
+pub extern "C" fn draw_block_model(words: &[u64], block: u32, buffer: &mut [u8]) -> u64
+    ensures { λ r. ⌜ r ≡ modelBlock (now (words .entry)) block (length (now (buffer .entry))) ⌝ }
+    ensures { λ r. ⌜ now (buffer .exit) ≡ blockBuffer (modelFrom (now (words .entry))) block (now (buffer .entry)) ⌝ }
+{
+    let m = model_from(words);
     let w = cnf::write_block(m, block, buffer);
     written_number(w)
 }
@@ -169,13 +300,11 @@ fn closed_sheet(sheet: &[u8], closed: u32, values: &[u8]) -> Closed
     solution::close(m, reading, values)
 }
 
-// A word for each group, where the slice has room for them.
+// A word for each group, at the front of a slice that has room for them.
 fn put_words(words: [u64; Model::GROUPS], groups: &mut [u64])
-    ensures { λ r. ⌜ now (groups .exit) ≡ laidIn (limits .groups) words (now (groups .entry)) ⌝ }
+    requires { ⌜ limits .groups ≤ length (now groups) ⌝ }
+    ensures { λ r. ⌜ now (groups .exit) ≡ words ++ drop (limits .groups) (now (groups .entry)) ⌝ }
 {
-    if groups.len() < Model::GROUPS {
-        return;
-    }
     let mut i: usize = 0;
     while i < Model::GROUPS {
         groups[i] = words[i];
@@ -183,14 +312,45 @@ fn put_words(words: [u64; Model::GROUPS], groups: &mut [u64])
     }
 }
 
-// Closing: the refusal, and the groups.
-#[no_mangle]
-pub extern "C" fn draw_close(sheet: &[u8], closed: u32, values: &[u8], groups: &mut [u64]) -> u32
-    ensures { λ r. ⌜ r ≡ drawClose (now (sheet .entry)) closed (now (values .entry)) ⌝ }
-    ensures { λ r. ⌜ now (groups .exit) ≡ drawGroups (now (sheet .entry)) closed (now (values .entry)) (now (groups .entry)) ⌝ }
+// Closing's refusal, and the groups. A slice without room for them is 24.
+fn close_number(a: Closed, groups: &mut [u64]) -> u32
+    ensures { λ r. ⌜ r ≡ fittedClosing (length (now (groups .entry))) a .refusal ⌝ }
+    ensures { λ r. ⌜ now (groups .exit) ≡ groupsAfter (fittedClosing (length (now (groups .entry))) a) (now (groups .entry)) ⌝ }
 {
-    let a = closed_sheet(sheet, closed, values);
+    if a.refusal != 0 {
+        return a.refusal;
+    }
+    if groups.len() < Model::GROUPS {
+        return 24;
+    }
     let words = a.groups;
     put_words(words, groups);
     a.refusal
+}
+
+#[no_mangle]
+pub extern "C" fn draw_close(sheet: &[u8], closed: u32, values: &[u8], groups: &mut [u64]) -> u32
+    ensures { λ r. ⌜ r ≡ drawClose (now (sheet .entry)) closed (now (values .entry)) (length (now (groups .entry))) ⌝ }
+    ensures { λ r. ⌜ now (groups .exit) ≡ drawGroups (now (sheet .entry)) closed (now (values .entry)) (now (groups .entry)) ⌝ }
+{
+    let a = closed_sheet(sheet, closed, values);
+    close_number(a, groups)
+}
+
+#[no_mangle]
+pub extern "C" fn draw_close_model(
+    words: &[u64],
+    closed: u32,
+    values: &[u8],
+    groups: &mut [u64],
+) -> u32
+    ensures { λ r. ⌜ r ≡ modelClose (now (words .entry)) closed (now (values .entry)) (length (now (groups .entry))) ⌝ }
+    ensures { λ r. ⌜ now (groups .exit) ≡ modelGroups (now (words .entry)) closed (now (values .entry)) (now (groups .entry)) ⌝ }
+{
+    let m = model_from(words);
+    let reading = Reading {
+        closed: closed != 0,
+    };
+    let a = solution::close(m, reading, values);
+    close_number(a, groups)
 }

@@ -1,30 +1,33 @@
 -- The starred examples A to I of document 01, proved together as one table over the definitions, and the published DIMACS samples beside them.
 -- Assumes nothing.
+use mathlib.Core.Path.{_≡_, refl}
 use Prim.Native.Nat.{ℕ, _-_}
 use Prim.Native.Char.{code}
 use Prim.Native.String.{String, [] as ε, _∷_ as _◁_}
 use mathlib.Core.Bool.{Bool, false, _&&_}
-use mathlib.Core.List.{List, [], _∷_, _++_, map}
+use mathlib.Core.List.{List, [], _∷_, _++_, map, List·Memᴰ, List·Memᴰ·not-nil}
 use mathlib.Core.Option.{Option, none, some}
-use lib.Dec.{T, eqb}
+use lib.Dec.{T, leb, eqb, leb→le}
 use lib.ListN.{length, replicate}
 use Rattle.model.specs.declared.Literal.{Literal}
 use Rattle.model.specs.declared.Literal.the-variants.{Pos, Neg}
 use Rattle.model.specs.declared.Model.{Model}
 use Rattle.model.specs.declared.Closed.{Closed}
 use Rattle.model.specs.Lists.{every, pairwise, range}
-use Rattle.model.specs.Model.{tableOf}
+use Rattle.model.specs.Model.{tableOf, inRange}
 use Rattle.model.specs.Sheet.{readSheet}
 use Rattle.model.specs.Propagate.{propagated, sameTable, isFixpoint}
 use Rattle.model.specs.Totalizer.{treeClauseCount, treeOutputCount}
 use Rattle.model.specs.Cnf.{variableCount, clauses}
-use Rattle.model.specs.Text.{headerText, listing, blockRefusal}
+use Rattle.model.specs.Text.{headerText, blockText, listing, blockRefusal}
 use Rattle.model.specs.Dimacs.{Formula, readDimacs}
 use Rattle.model.specs.Assignment.{lineRead, valuesAfter}
 use Rattle.model.specs.Close.{closed}
-use Rattle.model.specs.Solution.{solutions}
+use Rattle.model.specs.Solution.{isSolution, solutions}
 use Rattle.model.specs.Demand.{freshReading, isCandidate}
 use Rattle.model.specs.Defs.{defs}
+use Rattle.model.proofs.Lists.{and-left, and-right}
+use Rattle.model.proofs.Solutions.{solution-listed}
 
 -- ---- how an example is written and compared
 
@@ -53,7 +56,7 @@ reads text v c cs = is (readDimacs text)
     is (some f) = eqb (f .variables) v && eqb (f .clauseCount) c && sameClauses (f .clauses) cs
 
 -- the model of a sheet, and its settled model
-modelOf : String → Model
+pub modelOf : String → Model
 modelOf s = readSheet (bytes s) .model
 
 settled : String → Model
@@ -83,7 +86,7 @@ closesAs m s r groups =
 
 -- ---- A: the sheet, 2 passes, and the listing of ten clauses byte for byte
 
-sheetA : String
+pub sheetA : String
 sheetA = "   1   3   2   1\n   2   1   1   1   1   1   1\n   2   2   0   3   1   1   0\n   3   2   1   2\n"
 
 listingA : String
@@ -108,6 +111,9 @@ exampleA =
     let m = settled sheetA in
     settlesIn 2 sheetA
     && same (listing m) (bytes listingA)
+    && same (blockText m 1) (bytes "1 2 -5 0\n-2 5 0\n1 -6 0\n-1 5 0\n2 -6 0\n-1 -2 6 0\n5 0\n-6 0\n")
+    && same (blockText m 2) []
+    && same (blockText m 3) (bytes "-1 3 0\n-2 4 0\n")
     && every (λ b. eqb (blockRefusal m b 32768) 0) (range 0 4)
     && reads (listing m) 6 10 clausesA
     && sameClauses (clauses m) clausesA
@@ -140,7 +146,7 @@ exampleE =
 
 -- ---- F: settles in 2 passes, `p cnf 12 30`, no solution
 
-sheetF : String
+pub sheetF : String
 sheetF = "   1   2   6   3\n   2   1   1   1   1   1\n   2   2   1   1   1   1\n   2   3   1   1   1   1\n   2   4   0   0   1   1\n   2   5   0   0   1   1\n   2   6   0   0   1   1\n   3   3   4   1   2\n   3   3   5   1   3\n   3   3   6   2   3\n"
 
 exampleF : Bool
@@ -179,6 +185,29 @@ starredTable = every (λ b. b) (exampleA ∷ exampleB ∷ exampleC ∷ exampleD 
 pub starred : T starredTable
 unfolding defs bytes same sameLiteral sameClauses reads modelOf settled settlesIn isRefused closing closesAs sheetA listingA clausesA exampleA exampleB exampleC exampleD sheetE exampleE sheetF exampleF exampleG exampleH sheetI sheetI-exchanged exampleI starredTable
 starred = tt
+
+-- ---- and over every list of groups: B's four solutions are all there are, and F has none
+
+isWhole : Model → Bool
+isWhole m = inRange m && leb (m .s) (length (m .groups))
+
+every-solution : (m : Model) → T (isWhole m) → (l : List (List ℕ)) → solutions m ≡ l → (d : List ℕ) → T (isSolution m d) → List·Memᴰ d l
+unfolding isWhole
+every-solution m w l e d h =
+    let r = and-left (inRange m) (leb (m .s) (length (m .groups))) w in
+    let k = leb→le (m .s) (length (m .groups)) (and-right (inRange m) (leb (m .s) (length (m .groups))) w) in
+    rw e at (solution-listed m r k d h)
+
+pub fourSolutions : List (List ℕ)
+fourSolutions = (1 ∷ 1 ∷ []) ∷ (1 ∷ 3 ∷ []) ∷ (2 ∷ 2 ∷ []) ∷ (2 ∷ 3 ∷ []) ∷ []
+
+pub allOfB : (d : List ℕ) → T (isSolution (modelOf sheetA) d) → List·Memᴰ d fourSolutions
+unfolding defs bytes modelOf sheetA fourSolutions isWhole
+allOfB d h = every-solution (modelOf sheetA) tt fourSolutions refl d h
+
+pub noneOfF : (d : List ℕ) → T (isSolution (modelOf sheetF) d) → ⊥
+unfolding defs bytes modelOf sheetF isWhole
+noneOfF d h = List·Memᴰ·not-nil (every-solution (modelOf sheetF) tt [] refl d h)
 
 -- ---- the traps in the printed rules, one entrant each: the settled marks (fixed, possible) of each group
 

@@ -4,5 +4,6 @@ pub mod Words
 pub mod Codes
 pub mod Numbers
 pub mod Solver
+pub mod Solutions
 pub mod Examples
 pub mod Refusals

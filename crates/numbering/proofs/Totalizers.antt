@@ -1,11 +1,11 @@
 -- Laws of a group's totalizer: m, L, U, and how many outputs. Assumes nothing.
 use mathlib.Core.Path.{_≡_, ap, _∙_}
-use mathlib.Core.Bool.{Bool, true, false, _||_}
+use mathlib.Core.Bool.{Bool, true, false, cond, _||_}
 use mathlib.Core.List.{List, [], _∷_}
-use Prim.Native.Nat.{ℕ, suc, _+_, _-_, _*_, _≤_, _<_, min}
+use Prim.Native.Nat.{ℕ, suc, _+_, _-_, _*_, _≤_, _<_}
 use native.Mathlib.Omega.{arith}
-use borrow.Author.Tests.{lt-ltb, le-ltb}
-use lib.Dec.{ltb, eqb, eqb→eq}
+use borrow.Author.Tests.{lt-ltb, le-ltb, le-leb, lt-leb}
+use lib.Dec.{leb, ltb, eqb, eqb→eq}
 use lib.ListN.{getD, take}
 use Rattle.model.specs.declared.Group.{Group}
 use Rattle.model.specs.Lists.{total}
@@ -76,8 +76,11 @@ pub outputs-few : treeOutputCount (limits .word) ≤ limits .word * limits .word
 unfolding treeOutputCount outputCountIn
 outputs-few = omega arith
 
-pub within-word : (m : ℕ) → m ≤ limits .word → treeOutputCount (min m (limits .word)) ≡ treeOutputCount m
-within-word m h = ap treeOutputCount (omega arith)
+pub within-word : (m : ℕ) → m ≤ limits .word → cond (leb m (limits .word)) (treeOutputCount m) 0 ≡ treeOutputCount m
+within-word m h = rw (le-leb m (limits .word) h)
+
+pub past-word : (m : ℕ) → limits .word < m → 0 ≡ cond (leb m (limits .word)) (treeOutputCount m) 0
+past-word m h = rw (lt-leb m (limits .word) h)
 
 -- ---- the first number of group i + 1
 

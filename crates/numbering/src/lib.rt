@@ -1,7 +1,8 @@
 // Which number each variable gets: the open entrants, group by group, then the totalizers' outputs. Read by the block writer and by closing.
 ghost use mathlib.Core.Path.{_≡_};
 ghost use mathlib.Core.Bool.{cond};
-ghost use Prim.Native.Nat.{_+_, _*_, _-_, _≤_, min};
+ghost use Prim.Native.Nat.{_+_, _*_, _-_, _≤_};
+ghost use lib.Dec.{leb};
 ghost use lib.ListN.{take};
 ghost use Rattle.model.specs.Lists.{total};
 ghost use Rattle.model.specs.Limits.{limits};
@@ -126,12 +127,12 @@ const OUTPUTS: [u32; Model::WORD as usize + 1] = [
     384,
 ];
 
-// The outputs of a tree of size m; a size past a word's, which no group has, counts as a word's.
+// The outputs of a tree of size m. 0 past a word's size: no group has such a tree.
 pub fn output_count(m: u32) -> u32
-    ensures { λ r. ⌜ r ≡ treeOutputCount (min m (limits .word)) ⌝ }
+    ensures { λ r. ⌜ r ≡ cond (leb m (limits .word)) (treeOutputCount m) 0 ⌝ }
 {
     if Model::WORD < m {
-        return OUTPUTS[Model::WORD as usize];
+        return 0;
     }
     OUTPUTS[m as usize]
 }

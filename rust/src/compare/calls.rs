@@ -1,23 +1,30 @@
-//! The five calls of the C interface, and this crate's answer to each.
+//! The calls of the C interface, and this crate's answer to each.
 use crate::encode::Encoding;
 use crate::model::GROUPS;
-use crate::refusal::CONTRADICTION;
+use crate::refusal::{CONTRADICTION, SHORT_BUFFER};
 use crate::settle::{settle, Settled};
 use crate::sheet::read;
+use crate::words::from_words;
 use crate::{answer, close, listing};
 
 /// What answers the calls: the proved code, this crate, or a broken copy in a test.
 pub trait Calls {
     /// refusal * 65536 + line
     fn read(&self, sheet: &[u8]) -> u64;
-    /// refusal * 65536 + passes; the table gets fixed, possible, low, high of each group where it has room
+    /// refusal * 65536 + passes; the table gets fixed, possible, low, high of each group, and 24 is a table without room for them
     fn settle(&self, sheet: &[u8], table: &mut [u64]) -> u64;
     /// refusal * 2^32 + length
     fn block(&self, sheet: &[u8], block: u32, buffer: &mut [u8]) -> u64;
+    /// blocks from one on: next * 2^32 + length, where next is never 0; or the refusal
+    fn blocks(&self, sheet: &[u8], block: u32, buffer: &mut [u8]) -> u64;
     /// refusal * 2 + 1 where the reading is closed afterwards
     fn line(&self, closed: u32, line: &[u8], marks: &mut [u8]) -> u32;
-    /// the refusal; the table gets 256 groups where it has room, all zero on a refusal
+    /// the refusal; the table gets 256 groups, and 24 is a table without room for them
     fn close(&self, sheet: &[u8], closed: u32, marks: &[u8], groups: &mut [u64]) -> u32;
+    /// settling, a block and closing, of a model as words in place of a settled sheet
+    fn settle_model(&self, words: &[u64], table: &mut [u64]) -> u64;
+    fn block_model(&self, words: &[u64], block: u32, buffer: &mut [u8]) -> u64;
+    fn close_model(&self, words: &[u64], closed: u32, marks: &[u8], groups: &mut [u64]) -> u32;
 }
 
 pub struct Counterpart;
@@ -26,6 +33,36 @@ pub struct Counterpart;
 pub fn settled(sheet: &[u8]) -> Result<Settled, u32> {
     let model = read(sheet).map_err(|refused| refused.number)?;
     settle(model).ok_or(CONTRADICTION)
+}
+
+/// A model's words taken as settled, or refusal 20 or 22.
+pub fn given(words: &[u64]) -> Result<Settled, u32> {
+    from_words(words).and_then(Settled::given)
+}
+
+fn settle_number(settled: Result<Settled, u32>, table: &mut [u64]) -> Result<u64, u32> {
+    let settled = settled?;
+    let groups = &settled.model().groups;
+    let table = table.get_mut(..4 * groups.len()).ok_or(SHORT_BUFFER)?;
+    for (row, group) in table.chunks_exact_mut(4).zip(groups) {
+        row.copy_from_slice(&[group.fixed, group.possible, group.low.into(), group.high.into()]);
+    }
+    Ok(settled.passes().into())
+}
+
+fn block_number(settled: Result<Settled, u32>, block: u32, buffer: &mut [u8]) -> u64 {
+    match settled.and_then(|settled| listing::write_block(&Encoding::of(&settled), block as usize, buffer)) {
+        Ok(length) => length as u64,
+        Err(number) => u64::from(number) << 32,
+    }
+}
+
+fn close_number(settled: Result<Settled, u32>, closed: u32, marks: &[u8], groups: &mut [u64]) -> Result<(), u32> {
+    let drawn = close::close(&Encoding::of(&settled?), closed != 0, marks)?;
+    let table = groups.get_mut(..GROUPS as usize).ok_or(SHORT_BUFFER)?;
+    table.fill(0);
+    table[..drawn.len()].copy_from_slice(&drawn);
+    Ok(())
 }
 
 impl Calls for Counterpart {
@@ -37,24 +74,17 @@ impl Calls for Counterpart {
     }
 
     fn settle(&self, sheet: &[u8], table: &mut [u64]) -> u64 {
-        let settled = match settled(sheet) {
-            Ok(settled) => settled,
-            Err(number) => return u64::from(number) << 16,
-        };
-        let groups = &settled.model().groups;
-        if table.len() >= 4 * groups.len() {
-            for (row, group) in table.chunks_exact_mut(4).zip(groups) {
-                row.copy_from_slice(&[group.fixed, group.possible, group.low.into(), group.high.into()]);
-            }
-        }
-        settled.passes().into()
+        settle_number(settled(sheet), table).unwrap_or_else(|number| u64::from(number) << 16)
     }
 
     fn block(&self, sheet: &[u8], block: u32, buffer: &mut [u8]) -> u64 {
-        let written = settled(sheet).and_then(|settled| listing::write_block(&Encoding::of(&settled), block as usize, buffer));
-        match written {
-            Ok(length) => length as u64,
-            Err(number) => u64::from(number) << 32,
+        block_number(settled(sheet), block, buffer)
+    }
+
+    fn blocks(&self, sheet: &[u8], block: u32, buffer: &mut [u8]) -> u64 {
+        match settled(sheet).and_then(|settled| listing::write_blocks(&Encoding::of(&settled), block as usize, buffer)) {
+            Ok((next, length)) => (next as u64) << 32 | length as u64,
+            Err(number) => number.into(),
         }
     }
 
@@ -65,15 +95,19 @@ impl Calls for Counterpart {
     }
 
     fn close(&self, sheet: &[u8], closed: u32, marks: &[u8], groups: &mut [u64]) -> u32 {
-        let answer = settled(sheet).and_then(|settled| close::close(&Encoding::of(&settled), closed != 0, marks));
-        let (drawn, refusal) = match answer {
-            Ok(drawn) => (drawn, 0),
-            Err(number) => (Vec::new(), number),
-        };
-        if let Some(table) = groups.get_mut(..GROUPS as usize) {
-            table.fill(0);
-            table[..drawn.len()].copy_from_slice(&drawn);
-        }
-        refusal
+        close_number(settled(sheet), closed, marks, groups).err().unwrap_or(0)
+    }
+
+    fn settle_model(&self, words: &[u64], table: &mut [u64]) -> u64 {
+        let settled = from_words(words).and_then(|model| settle(model).ok_or(CONTRADICTION));
+        settle_number(settled, table).unwrap_or_else(|number| u64::from(number) << 16)
+    }
+
+    fn block_model(&self, words: &[u64], block: u32, buffer: &mut [u8]) -> u64 {
+        block_number(given(words), block, buffer)
+    }
+
+    fn close_model(&self, words: &[u64], closed: u32, marks: &[u8], groups: &mut [u64]) -> u32 {
+        close_number(given(words), closed, marks, groups).err().unwrap_or(0)
     }
 }

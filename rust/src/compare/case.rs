@@ -1,6 +1,8 @@
 //! One case of the comparison: a call's input, the kind of case it is, and whether both sides answer alike.
 use super::calls::{settled, Calls, Counterpart};
+use super::models::{self, ModelCase};
 use crate::encode::Encoding;
+use crate::listing::listing;
 use crate::model::GROUPS;
 use crate::refusal::*;
 use crate::settle::Settled;
@@ -21,6 +23,11 @@ pub enum Case {
         block: u32,
         spare: isize,
     },
+    /// Run after run, from block 0 on, each of so many bytes.
+    Blocks {
+        sheet: Vec<u8>,
+        rooms: Vec<usize>,
+    },
     Lines {
         marks: Vec<u8>,
         lines: Vec<Vec<u8>>,
@@ -31,6 +38,7 @@ pub enum Case {
         marks: Vec<u8>,
         room: usize,
     },
+    Model(ModelCase),
 }
 
 pub type Kind = &'static str;
@@ -38,7 +46,11 @@ pub type Kind = &'static str;
 pub const SAMPLE: Kind = "line: answers to the published samples";
 
 /// Every kind of case, in the order of the report. A run that misses one has failed.
-pub const KINDS: &[Kind] = &[
+pub fn kinds() -> impl Iterator<Item = Kind> {
+    KINDS.iter().chain(models::KINDS).copied()
+}
+
+const KINDS: &[Kind] = &[
     "read: accepted",
     "read: 1 too long",
     "read: 2 no end",
@@ -56,7 +68,7 @@ pub const KINDS: &[Kind] = &[
     "settle: three passes or more",
     "settle: 21",
     "settle: sheet refused",
-    "settle: table a word short",
+    "settle: 24 table a word short",
     "settle: table longer",
     "block: header",
     "block: counter",
@@ -69,6 +81,13 @@ pub const KINDS: &[Kind] = &[
     "block: 24 buffer a byte short",
     "block: 21",
     "block: sheet refused",
+    "blocks: one block",
+    "blocks: several blocks",
+    "blocks: to the end of the listing",
+    "blocks: 23 no such block",
+    "blocks: 24 next block does not fit",
+    "blocks: 21 or sheet refused",
+    "blocks: together the listing",
     SAMPLE,
     "line: c or s",
     "line: c or s after the closing 0",
@@ -91,7 +110,8 @@ pub const KINDS: &[Kind] = &[
     "close: 28 clause false",
     "close: 21",
     "close: sheet refused",
-    "close: table too short",
+    "close: 24 table too short",
+    "close: refused, table too short",
 ];
 
 /// What came of a case. Several calls, each of one kind or more, may be in it.
@@ -110,19 +130,19 @@ pub struct Difference {
 }
 
 impl Outcome {
-    fn note(&mut self, kind: Kind) {
+    pub fn note(&mut self, kind: Kind) {
         self.kinds.push(kind);
     }
 
     /// Keeps the first difference; the counterpart's answer stands first.
-    fn compare<T: PartialEq + std::fmt::Debug>(&mut self, what: &str, ours: T, theirs: T) {
+    pub fn compare<T: PartialEq + std::fmt::Debug>(&mut self, what: &str, ours: T, theirs: T) {
         if ours != theirs && self.difference.is_none() {
             let words = format!("{what}: counterpart {ours:?}, other side {theirs:?}");
             self.difference = Some(Difference { kinds: self.kinds[self.current..].to_vec(), words });
         }
     }
 
-    fn compare_bytes<T: PartialEq + std::fmt::Debug>(&mut self, what: &str, ours: &[T], theirs: &[T]) {
+    pub fn compare_bytes<T: PartialEq + std::fmt::Debug>(&mut self, what: &str, ours: &[T], theirs: &[T]) {
         if let Some(at) = (0..ours.len()).find(|&at| ours[at] != theirs[at]) {
             self.compare(&format!("{what} at {at}"), &ours[at], &theirs[at]);
         }
@@ -130,11 +150,11 @@ impl Outcome {
 }
 
 /// Bytes that nobody would write by chance.
-fn junk(length: usize) -> Vec<u8> {
+pub fn junk(length: usize) -> Vec<u8> {
     (0..length).map(|at| (at * 37 + 165) as u8).collect()
 }
 
-fn junk_words(length: usize) -> Vec<u64> {
+pub fn junk_words(length: usize) -> Vec<u64> {
     (0..length as u64).map(|at| at.wrapping_mul(0x9E37_79B9_7F4A_7C15) | 1 << 63).collect()
 }
 
@@ -144,8 +164,10 @@ pub fn check(case: &Case, other: &dyn Calls) -> Outcome {
         Case::Read { sheet } => check_read(sheet, other, &mut outcome),
         Case::Settle { sheet, spare } => check_settle(sheet, *spare, other, &mut outcome),
         Case::Block { sheet, block, spare } => check_block(sheet, *block, *spare, other, &mut outcome),
+        Case::Blocks { sheet, rooms } => check_blocks(sheet, rooms, other, &mut outcome),
         Case::Lines { marks, lines } => check_lines(marks, lines, other, &mut outcome),
         Case::Close { sheet, closed, marks, room } => check_close(sheet, *closed, marks, *room, other, &mut outcome),
+        Case::Model(model) => model.check(other, &mut outcome),
     }
     outcome
 }
@@ -176,15 +198,7 @@ fn read_kind(sheet: &[u8], answer: u64) -> Kind {
 fn check_settle(sheet: &[u8], spare: isize, other: &dyn Calls, outcome: &mut Outcome) {
     let words = match settled(sheet) {
         Ok(settled) => {
-            outcome.note(settled_kind(&settled));
-            if settled.passes() > 2 {
-                outcome.note("settle: three passes or more");
-            }
-            match spare {
-                0 => {}
-                ..0 => outcome.note("settle: table a word short"),
-                _ => outcome.note("settle: table longer"),
-            }
+            note_settled(&settled, spare, outcome);
             4 * settled.model().groups.len()
         }
         Err(CONTRADICTION) => {
@@ -200,6 +214,20 @@ fn check_settle(sheet: &[u8], spare: isize, other: &dyn Calls, outcome: &mut Out
     let mut theirs = ours.clone();
     outcome.compare("refusal * 65536 + passes", Counterpart.settle(sheet, &mut ours), other.settle(sheet, &mut theirs));
     outcome.compare_bytes("table", &ours, &theirs);
+}
+
+fn note_settled(settled: &Settled, spare: isize, outcome: &mut Outcome) {
+    if spare < 0 {
+        outcome.note("settle: 24 table a word short");
+        return;
+    }
+    outcome.note(settled_kind(settled));
+    if settled.passes() > 2 {
+        outcome.note("settle: three passes or more");
+    }
+    if spare > 0 {
+        outcome.note("settle: table longer");
+    }
 }
 
 fn settled_kind(settled: &Settled) -> Kind {
@@ -252,6 +280,37 @@ fn note_block(sheet: &[u8], block: u32, length: usize, spare: isize, outcome: &m
     outcome.note(if spare > 0 { "block: buffer longer" } else { "block: buffer exactly long enough" });
 }
 
+/// Run after run, each side from where its own last run stopped.
+fn check_blocks(sheet: &[u8], rooms: &[usize], other: &dyn Calls, outcome: &mut Outcome) {
+    let last = settled(sheet).map_or(0, |settled| Encoding::of(&settled).blocks() as u32);
+    let (mut block, mut text) = (0, Vec::new());
+    outcome.calls = rooms.len() as u64;
+    for &room in rooms {
+        let (mut ours, mut theirs) = (junk(room), junk(room));
+        let answer = Counterpart.blocks(sheet, block, &mut ours);
+        let next = (answer >> 32) as u32;
+        outcome.current = outcome.kinds.len();
+        outcome.note(match answer as u32 {
+            _ if next > last => "blocks: to the end of the listing",
+            _ if next == block + 1 => "blocks: one block",
+            _ if next > 0 => "blocks: several blocks",
+            NO_BLOCK => "blocks: 23 no such block",
+            SHORT_BUFFER => "blocks: 24 next block does not fit",
+            _ => "blocks: 21 or sheet refused",
+        });
+        outcome.compare("next * 2^32 + length, or the refusal", answer, other.blocks(sheet, block, &mut theirs));
+        outcome.compare_bytes("buffer", &ours, &theirs);
+        if next > 0 {
+            text.extend_from_slice(&theirs[..answer as u32 as usize]);
+            block = next;
+        }
+    }
+    if let (Ok(settled), true) = (settled(sheet), block > last) {
+        outcome.note("blocks: together the listing");
+        outcome.compare("the runs together", &listing(&Encoding::of(&settled)), &text);
+    }
+}
+
 /// Line after line, each side's state and marks carried on.
 fn check_lines(marks: &[u8], lines: &[Vec<u8>], other: &dyn Calls, outcome: &mut Outcome) {
     let (mut ours, mut theirs) = (marks.to_vec(), marks.to_vec());
@@ -291,8 +350,8 @@ fn check_close(sheet: &[u8], closed: bool, marks: &[u8], room: usize, other: &dy
     let mut theirs = ours.clone();
     let answer = Counterpart.close(sheet, closed.into(), marks, &mut ours);
     outcome.note(close_kind(sheet, closed, marks, answer));
-    if room < GROUPS as usize {
-        outcome.note("close: table too short");
+    if room < GROUPS as usize && answer != SHORT_BUFFER {
+        outcome.note("close: refused, table too short");
     }
     outcome.compare("refusal", answer, other.close(sheet, closed.into(), marks, &mut theirs));
     outcome.compare_bytes("groups", &ours, &theirs);
@@ -313,6 +372,7 @@ fn close_kind(sheet: &[u8], closed: bool, marks: &[u8], answer: u32) -> Kind {
         UNSAID if !closed => "close: 27 no closing 0",
         UNSAID => "close: 27 unsaid",
         FALSE_CLAUSE => "close: 28 clause false",
+        SHORT_BUFFER => "close: 24 table too short",
         CONTRADICTION => "close: 21",
         _ => "close: sheet refused",
     }
@@ -321,8 +381,10 @@ fn close_kind(sheet: &[u8], closed: bool, marks: &[u8], answer: u32) -> Kind {
 impl Case {
     pub fn sheet(&self) -> Option<&[u8]> {
         match self {
-            Case::Read { sheet } | Case::Settle { sheet, .. } | Case::Block { sheet, .. } | Case::Close { sheet, .. } => Some(sheet),
-            Case::Lines { .. } => None,
+            Case::Read { sheet } | Case::Settle { sheet, .. } | Case::Block { sheet, .. } | Case::Blocks { sheet, .. } | Case::Close { sheet, .. } => {
+                Some(sheet)
+            }
+            Case::Lines { .. } | Case::Model(_) => None,
         }
     }
 
@@ -330,7 +392,7 @@ impl Case {
     pub fn with_sheet(&self, new: Vec<u8>) -> Case {
         let mut case = self.clone();
         match &mut case {
-            Case::Read { sheet } | Case::Settle { sheet, .. } | Case::Block { sheet, .. } => *sheet = new,
+            Case::Read { sheet } | Case::Settle { sheet, .. } | Case::Block { sheet, .. } | Case::Blocks { sheet, .. } => *sheet = new,
             Case::Close { sheet, marks, .. } => {
                 let variables = |sheet: &[u8]| settled(sheet).ok().map(|settled| Encoding::of(&settled).variables as isize);
                 if let (Some(before), Some(now)) = (variables(sheet), variables(&new)) {
@@ -338,7 +400,7 @@ impl Case {
                 }
                 *sheet = new;
             }
-            Case::Lines { .. } => {}
+            Case::Lines { .. } | Case::Model(_) => {}
         }
         case
     }
@@ -353,6 +415,8 @@ impl Case {
             Case::Read { sheet: s } => format!("read\n{}", sheet(s)),
             Case::Settle { sheet: s, spare } => format!("settle, table of 4*s{spare:+} words\n{}", sheet(s)),
             Case::Block { sheet: s, block, spare } => format!("block {block}, buffer of the block's length{spare:+}\n{}", sheet(s)),
+            Case::Blocks { sheet: s, rooms } => format!("runs of blocks, buffers of {rooms:?} bytes\n{}", sheet(s)),
+            Case::Model(model) => model.show(),
             Case::Close { sheet: s, closed, marks, room } => format!("close, closed {closed}, marks {marks:?}, table of {room} words\n{}", sheet(s)),
             Case::Lines { marks, lines } => {
                 let lines: String = lines.iter().map(|line| format!("  \"{}\"\n", text(line))).collect();

@@ -2,6 +2,7 @@
 pub mod answers;
 pub mod calls;
 pub mod case;
+pub mod models;
 pub mod programs;
 pub mod random;
 pub mod run;

@@ -1,10 +1,11 @@
 //! A run of the comparison: cases from a seed, counted by kind, with the smallest case of each difference.
 use super::calls::{settled, Calls};
-use super::case::{check, Case, Kind, KINDS, SAMPLE};
+use super::case::{check, kinds, Case, Kind, SAMPLE};
 use super::random::Random;
 use super::shrink::shrink;
-use super::{answers, samples, sheets};
+use super::{answers, models, samples, sheets};
 use crate::encode::Encoding;
+use crate::listing::listing;
 use std::collections::BTreeMap;
 use std::time::{Duration, Instant};
 
@@ -63,18 +64,18 @@ impl Tally {
     /// One line a kind, then 'N passed, M failed'; a kind that was never met has failed.
     pub fn report(&self, say: &mut dyn FnMut(&str)) -> bool {
         let mut failures = 0;
-        for kind in KINDS {
+        for kind in kinds() {
             let met = self.met.get(kind).copied().unwrap_or(0);
             let verdict = match met {
                 0 => "FAILED: never met",
-                _ if self.failed.contains(kind) => "FAILED",
+                _ if self.failed.contains(&kind) => "FAILED",
                 _ => "same",
             };
             failures += usize::from(verdict != "same");
             say(&format!("{met:>9}  {kind:<45} {verdict}"));
         }
         say(&format!("{} cases", self.calls));
-        say(&format!("{} passed, {failures} failed", KINDS.len() - failures));
+        say(&format!("{} passed, {failures} failed", kinds().count() - failures));
         failures == 0
     }
 }
@@ -91,7 +92,11 @@ pub fn batch(random: &mut Random) -> Vec<Case> {
     for _ in 0..3 {
         cases.push(block_case(random, &sheet));
     }
+    cases.push(blocks_case(random, &sheet));
     cases.push(lines_case(random));
+    for _ in 0..3 {
+        cases.extend(models::case(random, &sheet, sample.draw.as_deref()).map(Case::Model));
+    }
     cases.push(close_case(random, sheet, sample.draw.as_deref()));
     cases
 }
@@ -99,7 +104,8 @@ pub fn batch(random: &mut Random) -> Vec<Case> {
 fn damaged_batch(random: &mut Random, sheet: &[u8]) -> Vec<Case> {
     let sheet = sheets::damaged(random, sheet);
     let mut cases = vec![Case::Read { sheet: sheet.clone() }];
-    match random.below(6) {
+    match random.below(7) {
+        6 => cases.push(blocks_case(random, &sheet)),
         0 => cases.push(Case::Settle { sheet, spare: 0 }),
         1 => cases.push(block_case(random, &sheet)),
         2 => cases.push(close_case(random, sheet, None)),
@@ -117,6 +123,16 @@ fn block_case(random: &mut Random, sheet: &[u8]) -> Case {
         _ => random.below(blocks as usize + 1) as u32,
     };
     Case::Block { sheet: sheet.to_vec(), block, spare: random.pick(&[0, 0, -1, 1, 50]) }
+}
+
+/// Runs with buffers about as long as a few blocks, and one that takes the rest.
+fn blocks_case(random: &mut Random, sheet: &[u8]) -> Case {
+    let length = settled(sheet).map_or(100, |settled| listing(&Encoding::of(&settled)).len());
+    let few = (length / random.from_to(1, 6)).max(1);
+    let mut rooms: Vec<usize> = (0..random.from_to(1, 4)).map(|_| random.below(few + 1)).collect();
+    rooms.push(random.pick(&[length, length, 32_768, 32_767, length.saturating_sub(1)]));
+    rooms.push(random.pick(&[0, 10, length]));
+    Case::Blocks { sheet: sheet.to_vec(), rooms }
 }
 
 fn lines_case(random: &mut Random) -> Case {
@@ -172,10 +188,10 @@ mod tests {
     fn no_difference_from_itself_and_every_kind_is_met() {
         let (tally, text) = outcome(&Counterpart);
         assert!(tally.failed.is_empty(), "{text}");
-        for kind in KINDS {
+        for kind in kinds() {
             assert!(tally.met.contains_key(kind), "never met: {kind}");
         }
-        assert_eq!(tally.met.len(), KINDS.len(), "a kind that is not in the list");
+        assert_eq!(tally.met.len(), kinds().count(), "a kind that is not in the list");
     }
 
     /// This crate with one call exchanged.
@@ -185,6 +201,10 @@ mod tests {
         block: fn(&[u8], u32, &mut [u8]) -> u64,
         line: fn(u32, &[u8], &mut [u8]) -> u32,
         close: fn(&[u8], u32, &[u8], &mut [u64]) -> u32,
+        blocks: fn(&[u8], u32, &mut [u8]) -> u64,
+        settle_model: fn(&[u64], &mut [u64]) -> u64,
+        block_model: fn(&[u64], u32, &mut [u8]) -> u64,
+        close_model: fn(&[u64], u32, &[u8], &mut [u64]) -> u32,
     }
 
     const SOUND: Broken = Broken {
@@ -193,6 +213,10 @@ mod tests {
         block: |sheet, block, buffer| Counterpart.block(sheet, block, buffer),
         line: |closed, line, marks| Counterpart.line(closed, line, marks),
         close: |sheet, closed, marks, groups| Counterpart.close(sheet, closed, marks, groups),
+        blocks: |sheet, block, buffer| Counterpart.blocks(sheet, block, buffer),
+        settle_model: |words, table| Counterpart.settle_model(words, table),
+        block_model: |words, block, buffer| Counterpart.block_model(words, block, buffer),
+        close_model: |words, closed, marks, groups| Counterpart.close_model(words, closed, marks, groups),
     };
 
     impl Calls for Broken {
@@ -210,6 +234,18 @@ mod tests {
         }
         fn close(&self, sheet: &[u8], closed: u32, marks: &[u8], groups: &mut [u64]) -> u32 {
             (self.close)(sheet, closed, marks, groups)
+        }
+        fn blocks(&self, sheet: &[u8], block: u32, buffer: &mut [u8]) -> u64 {
+            (self.blocks)(sheet, block, buffer)
+        }
+        fn settle_model(&self, words: &[u64], table: &mut [u64]) -> u64 {
+            (self.settle_model)(words, table)
+        }
+        fn block_model(&self, words: &[u64], block: u32, buffer: &mut [u8]) -> u64 {
+            (self.block_model)(words, block, buffer)
+        }
+        fn close_model(&self, words: &[u64], closed: u32, marks: &[u8], groups: &mut [u64]) -> u32 {
+            (self.close_model)(words, closed, marks, groups)
         }
     }
 
@@ -269,5 +305,47 @@ mod tests {
             answer => answer,
         };
         is_caught(Broken { close, ..SOUND }, "close: 28 clause false", "close, closed true");
+    }
+
+    /// What `draw_close` did before it left the words of a refused call.
+    #[test]
+    fn closing_that_clears_the_table_on_a_refusal_is_caught() {
+        let close = |sheet: &[u8], closed, marks: &[u8], groups: &mut [u64]| {
+            let answer = Counterpart.close(sheet, closed, marks, groups);
+            if answer != 0 {
+                groups.fill(0);
+            }
+            answer
+        };
+        is_caught(Broken { close, ..SOUND }, "close: 28 clause false", "groups at 0");
+    }
+
+    /// What `draw_settle` answered before: 0 where nothing was written.
+    #[test]
+    fn settling_that_does_not_say_24_is_caught() {
+        let settle = |sheet: &[u8], table: &mut [u64]| match Counterpart.settle(sheet, table) {
+            answer if answer >> 16 == 24 => 1,
+            answer => answer,
+        };
+        is_caught(Broken { settle, ..SOUND }, "settle: 24 table a word short", "difference in settle: 24");
+    }
+
+    /// What a run of blocks did before: it stopped where fewer than 32,768 bytes were left, and answered 0.
+    #[test]
+    fn a_run_that_stops_though_the_block_fits_is_caught() {
+        let blocks = |sheet: &[u8], block, buffer: &mut [u8]| match buffer.len() {
+            0..32_768 => u64::from(block) << 32,
+            _ => Counterpart.blocks(sheet, block, buffer),
+        };
+        is_caught(Broken { blocks, ..SOUND }, "blocks: several blocks", "runs of blocks");
+    }
+
+    #[test]
+    fn a_block_of_an_unsettled_model_is_caught() {
+        let block_model = |words: &[u64], block, buffer: &mut [u8]| match Counterpart.block_model(words, block, buffer) {
+            answer if answer >> 32 == 22 => 20 << 32,
+            answer => answer,
+        };
+        is_caught(Broken { block_model, ..SOUND }, "model: 22 of a block", "of a model");
     }
 }

@@ -1,8 +1,8 @@
--- `draw_close` has the refusal and the groups of the closing call. Assumes nothing.
+-- `draw_close` closes on the settled sheet and lays the groups. Assumes nothing.
 use mathlib.Core.Path.{ap, _∙_}
+use lib.ListN.{length}
 use Rattle.model.specs.declared.Closed.{Closed}
-use Rattle.model.specs.Limits.{limits}
-use Rattle.exports.specs.Draw.{laidIn, drawClose, drawGroups}
+use Rattle.exports.specs.Draw.{fittedClosing, groupsAfter, drawClose, drawGroups}
 use borrow.Author.Needs.{needs}
 use Rattle.exports.proofs.draw_close.Statement.{statement}
 use Rattle.exports.proofs.draw_close.Tie as tie
@@ -10,15 +10,20 @@ use Rattle.exports.proofs.draw_close.Tie as tie
 closed-sheet-requires : tie.Need-closed-sheet-requires
 closed-sheet-requires c κs = search needs
 
-put-words-requires : tie.Need-put-words-requires
-put-words-requires c κs = search needs
+close-number-requires : tie.Need-close-number-requires
+close-number-requires c κs = search needs
 
 same-length : tie.Need-same-length
 same-length c = search needs
 
 returns : tie.Need-returns
 unfolding drawClose drawGroups
-returns c = (ap (λ (a : Closed). a .refusal) (c .before .before .before .before .before .closed-sheet .ensures), c .before .before .put-words .ensures ∙ ap (λ (a : Closed). laidIn (limits .groups) (a .groups) (c .before .before .before .before .before .before .before .before .before .args .groups .now)) (c .before .before .before .before .before .closed-sheet .ensures))
+returns c =
+    let e = c .before .before .before .before .closed-sheet .ensures in
+    let g = c .before .before .before .before .before .before .before .before .args .groups .now in (
+      c .before .before .close-number .ensures .0 ∙ ap (λ (a : Closed). fittedClosing (length g) a .refusal) e,
+      c .before .before .close-number .ensures .1 ∙ ap (λ (a : Closed). groupsAfter (fittedClosing (length g) a) g) e,
+    )
 
 pub draw-close-spec : {M : Type 1} → statement M
-draw-close-spec = tie.close (tie.spec closed-sheet-requires put-words-requires same-length returns)
+draw-close-spec = tie.close (tie.spec closed-sheet-requires close-number-requires same-length returns)

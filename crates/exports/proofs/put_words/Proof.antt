@@ -4,7 +4,7 @@ use mathlib.Core.Path.{refl}
 use Prim.Native.Nat.{_-_}
 use native.Mathlib.Omega.{arith}
 use borrow.Author.Needs.{needs}
-use Rattle.exports.proofs.Words.{not-laid, Copying, copying-length, copying-next, copying-end}
+use Rattle.exports.proofs.Words.{Copying, copying-length, copying-next, copying-end}
 use Rattle.exports.proofs.put_words.Statement.{statement}
 use Rattle.exports.proofs.put_words.Tie as tie
 
@@ -13,9 +13,6 @@ Inv-loop groups₀ words i₀ groups i = Copying words groups₀ groups i
 
 abbrev μ-loop : tie.MeasureT-loop
 μ-loop groups₀ words i₀ groups i = limits .groups - i
-
-returns : tie.Need-returns Inv-loop μ-loop
-returns c = not-laid _ _ _ (c .if1 .taken)
 
 loop-holds : tie.Need-loop-holds Inv-loop μ-loop
 loop-holds c = record { passed = omega arith; whole = omega arith; room = omega arith; copied = refl }
@@ -44,8 +41,8 @@ loop-again c = copying-next _ _ _ _ (c .before .loop .inv) (omega arith)
 same-length : tie.Need-same-length Inv-loop μ-loop
 same-length c = copying-length _ _ _ _ (c .before .loop .inv)
 
-returns-2 : tie.Need-returns-2 Inv-loop μ-loop
-returns-2 c = copying-end _ _ _ _ (c .before .loop .inv) (omega arith)
+returns : tie.Need-returns Inv-loop μ-loop
+returns c = copying-end _ _ _ _ (c .before .loop .inv) (omega arith)
 
 pub put-words-spec : {M : Type 1} → statement M
 put-words-spec =
@@ -53,7 +50,6 @@ put-words-spec =
     (tie.spec
     Inv-loop
     μ-loop
-    returns
     loop-holds
     mul-groups
     array-read-groups
@@ -63,4 +59,4 @@ put-words-spec =
     loop-less
     loop-again
     same-length
-    returns-2)
+    returns)

@@ -1,0 +1,204 @@
+//! Models as words, whole and damaged in one word, for settling, a block and closing.
+use super::answers;
+use super::calls::{given, Calls, Counterpart};
+use super::case::{junk, junk_words, Kind, Outcome};
+use super::random::Random;
+use crate::encode::Encoding;
+use crate::model::Model;
+use crate::refusal::*;
+use crate::settle::settle;
+use crate::sheet;
+use crate::words::{field_at, from_words, to_words, Field, FIRST_GROUP, FIRST_LINE, WORDS};
+
+#[derive(Clone, Debug)]
+pub struct ModelCase {
+    pub words: Vec<u64>,
+    /// The place of the word that was changed.
+    damaged: Option<usize>,
+    call: Call,
+}
+
+#[derive(Clone, Debug)]
+enum Call {
+    /// Words of the table.
+    Settle {
+        room: usize,
+    },
+    /// Bytes of the buffer beyond the block's length, or missing.
+    Block {
+        block: u32,
+        spare: isize,
+    },
+    Close {
+        closed: bool,
+        marks: Vec<u8>,
+    },
+}
+
+/// The kinds of the cases made here, in the order of the report.
+pub const KINDS: &[Kind] = &[
+    "model: word past s, c and members changed",
+    "model: 20 by n",
+    "model: 20 by s",
+    "model: 20 by c",
+    "model: 20 by fixed",
+    "model: 20 by possible",
+    "model: 20 by low",
+    "model: 20 by high",
+    "model: 20 by code",
+    "model: 20 by k",
+    "model: 20 by a group number",
+    "model: settled",
+    "model: 20 of settling",
+    "model: 21 of settling",
+    "model: 24 of settling",
+    "model: block",
+    "model: 20 of a block",
+    "model: 22 of a block",
+    "model: 23 of a block",
+    "model: 24 of a block",
+    "model: closed",
+    "model: 20 of closing",
+    "model: 22 of closing",
+    "model: 26, 27 or 28 of closing",
+];
+
+/// The kind of a damage, where the model is refused or stays the same.
+fn damage_kind(words: &[u64], place: usize) -> Option<Kind> {
+    if from_words(words).is_ok() {
+        let unused = from_words(&with(words, place, words[place] ^ 1 << 40 ^ 1)) == from_words(words);
+        return unused.then_some(KINDS[0]);
+    }
+    Some(match field_at(place).0 {
+        Field::Entrants => "model: 20 by n",
+        Field::Groups => "model: 20 by s",
+        Field::Lines => "model: 20 by c",
+        Field::Fixed => "model: 20 by fixed",
+        Field::Possible => "model: 20 by possible",
+        Field::Low => "model: 20 by low",
+        Field::High => "model: 20 by high",
+        Field::Code => "model: 20 by code",
+        Field::Count => "model: 20 by k",
+        Field::Member => "model: 20 by a group number",
+    })
+}
+
+fn with(words: &[u64], place: usize, value: u64) -> Vec<u64> {
+    let mut words = words.to_vec();
+    words[place] = value;
+    words
+}
+
+impl ModelCase {
+    pub fn check(&self, other: &dyn Calls, outcome: &mut Outcome) {
+        if let Some(kind) = self.damaged.and_then(|place| damage_kind(&self.words, place)) {
+            outcome.note(kind);
+        }
+        match &self.call {
+            Call::Settle { room } => self.check_settle(*room, other, outcome),
+            Call::Block { block, spare } => self.check_block(*block, *spare, other, outcome),
+            Call::Close { closed, marks } => self.check_close(*closed, marks, other, outcome),
+        }
+    }
+
+    fn check_settle(&self, room: usize, other: &dyn Calls, outcome: &mut Outcome) {
+        let mut ours = junk_words(room);
+        let mut theirs = ours.clone();
+        let answer = Counterpart.settle_model(&self.words, &mut ours);
+        outcome.note(match (answer >> 16) as u32 {
+            0 => "model: settled",
+            OUT_OF_RANGE => "model: 20 of settling",
+            CONTRADICTION => "model: 21 of settling",
+            _ => "model: 24 of settling",
+        });
+        outcome.compare("refusal * 65536 + passes", answer, other.settle_model(&self.words, &mut theirs));
+        outcome.compare_bytes("table", &ours, &theirs);
+    }
+
+    fn check_block(&self, block: u32, spare: isize, other: &dyn Calls, outcome: &mut Outcome) {
+        let length = Counterpart.block_model(&self.words, block, &mut [0; 32_768]) as u32 as usize;
+        let mut ours = junk(length.saturating_add_signed(spare));
+        let mut theirs = ours.clone();
+        let answer = Counterpart.block_model(&self.words, block, &mut ours);
+        outcome.note(match (answer >> 32) as u32 {
+            0 => "model: block",
+            OUT_OF_RANGE => "model: 20 of a block",
+            UNSETTLED => "model: 22 of a block",
+            NO_BLOCK => "model: 23 of a block",
+            _ => "model: 24 of a block",
+        });
+        outcome.compare("refusal * 2^32 + length", answer, other.block_model(&self.words, block, &mut theirs));
+        outcome.compare_bytes("buffer", &ours, &theirs);
+    }
+
+    fn check_close(&self, closed: bool, marks: &[u8], other: &dyn Calls, outcome: &mut Outcome) {
+        let mut ours = junk_words(256);
+        let mut theirs = ours.clone();
+        let answer = Counterpart.close_model(&self.words, closed.into(), marks, &mut ours);
+        outcome.note(match answer {
+            0 => "model: closed",
+            OUT_OF_RANGE => "model: 20 of closing",
+            UNSETTLED => "model: 22 of closing",
+            _ => "model: 26, 27 or 28 of closing",
+        });
+        outcome.compare("refusal", answer, other.close_model(&self.words, closed.into(), marks, &mut theirs));
+        outcome.compare_bytes("groups", &ours, &theirs);
+    }
+
+    /// The call, the head and the words that are not 0.
+    pub fn show(&self) -> String {
+        let words = self.words.iter().enumerate().filter(|(_, &word)| word != 0).map(|(place, word)| format!(" {place}:{word}"));
+        format!("{:?} of a model, word {:?} changed, words{}\n", self.call, self.damaged, words.collect::<String>())
+    }
+}
+
+/// A case on the model of a sheet, as it is or settled, often with one word changed.
+pub fn case(random: &mut Random, sheet: &[u8], draw: Option<&[u64]>) -> Option<ModelCase> {
+    let read = sheet::read(sheet).ok()?;
+    let model = match settle(read.clone()) {
+        Some(settled) if random.chance(75) => settled.model().clone(),
+        _ => read,
+    };
+    let mut words = to_words(&model, random.pick(&[0, 0, 1, u64::MAX]));
+    let damaged = random.chance(50).then(|| place(random, &model));
+    if let Some(place) = damaged {
+        words[place] = damage(random, words[place]);
+    }
+    let call = match random.below(3) {
+        0 => Call::Settle { room: (4 * model.groups.len()).saturating_add_signed(random.pick(&[0, 0, -1, 5])) },
+        1 => Call::Block { block: random.below(model.groups.len() + model.constraints.len() + 2) as u32, spare: random.pick(&[0, 0, -1, 9]) },
+        _ => closing(random, &words, draw),
+    };
+    Some(ModelCase { words, damaged, call })
+}
+
+fn closing(random: &mut Random, words: &[u64], draw: Option<&[u64]>) -> Call {
+    let marks = match (given(words), draw) {
+        (Ok(settled), Some(draw)) if draw.len() == settled.model().groups.len() => answers::fill(&Encoding::of(&settled), draw),
+        (Ok(settled), _) => vec![2; Encoding::of(&settled).variables],
+        _ => vec![1; random.below(4)],
+    };
+    Call::Close { closed: random.chance(80), marks }
+}
+
+/// A word of the model, each field as likely as another; now and then one that is ignored.
+fn place(random: &mut Random, model: &Model) -> usize {
+    let group = FIRST_GROUP + 4 * random.below(model.groups.len());
+    let line = FIRST_LINE + 19 * random.below(model.constraints.len().max(1));
+    match random.below(11) {
+        place @ 0..=2 => place,
+        place @ 3..=6 => group + place - 3,
+        place @ 7..=8 => line + place - 7,
+        9 => line + 2 + random.below(17),
+        _ => random.below(WORDS),
+    }
+}
+
+fn damage(random: &mut Random, word: u64) -> u64 {
+    match random.below(4) {
+        0 => word.wrapping_add(1),
+        1 => word.wrapping_sub(1),
+        2 => word ^ 1 << random.below(34),
+        _ => random.pick(&[0, 1, 2, 3, 5, 6, 7, 16, 17, 32, 33, 256, 257, u64::from(u32::MAX), 1 << 32 | 1, u64::MAX]),
+    }
+}

@@ -1,0 +1,127 @@
+//! A model as the calls' words: n, s, c, then four words a group and nineteen a line, all 256 of each.
+use crate::model::*;
+use crate::refusal::OUT_OF_RANGE;
+
+const MEMBERS: usize = 1 + UNION_MAX as usize;
+const GROUP_WORDS: usize = 4;
+const LINE_WORDS: usize = 2 + MEMBERS;
+pub const FIRST_GROUP: usize = 3;
+pub const FIRST_LINE: usize = FIRST_GROUP + GROUP_WORDS * GROUPS as usize;
+pub const WORDS: usize = FIRST_LINE + LINE_WORDS * LINES as usize;
+
+/// Which of a model's words stands at a place.
+#[derive(Clone, Copy, Debug, PartialEq, Eq)]
+pub enum Field {
+    Entrants,
+    Groups,
+    Lines,
+    Fixed,
+    Possible,
+    Low,
+    High,
+    Code,
+    Count,
+    Member,
+}
+
+/// The field at a place, and the number of its group or line, from 0.
+pub fn field_at(place: usize) -> (Field, usize) {
+    use Field::*;
+    match place {
+        0..FIRST_GROUP => ([Entrants, Groups, Lines][place], 0),
+        FIRST_GROUP..FIRST_LINE => {
+            let at = place - FIRST_GROUP;
+            ([Fixed, Possible, Low, High][at % GROUP_WORDS], at / GROUP_WORDS)
+        }
+        _ => {
+            let at = place - FIRST_LINE;
+            ([Code, Count, Member][(at % LINE_WORDS).min(2)], at / LINE_WORDS)
+        }
+    }
+}
+
+/// The words of a model; what belongs to no group, line or member is `rest`.
+pub fn to_words(model: &Model, rest: u64) -> Vec<u64> {
+    let mut words = vec![rest; WORDS];
+    let head = [model.entrants as usize, model.groups.len(), model.constraints.len()];
+    words.iter_mut().zip(head).for_each(|(word, number)| *word = number as u64);
+    for (row, group) in words[FIRST_GROUP..].chunks_exact_mut(GROUP_WORDS).zip(&model.groups) {
+        row.copy_from_slice(&[group.fixed, group.possible, group.low.into(), group.high.into()]);
+    }
+    for (row, line) in words[FIRST_LINE..].chunks_exact_mut(LINE_WORDS).zip(&model.constraints) {
+        row[0] = line.code.into();
+        row[1] = if line.code == 6 { line.groups.len() as u64 - 1 } else { rest };
+        row[2..].iter_mut().zip(&line.groups).for_each(|(word, &group)| *word = group as u64 + 1);
+    }
+    words
+}
+
+/// The model of words, or refusal 20. A missing word is 0, and a number has 32 bits.
+pub fn from_words(words: &[u64]) -> Result<Model, u32> {
+    model_of(words).ok_or(OUT_OF_RANGE)
+}
+
+fn model_of(words: &[u64]) -> Option<Model> {
+    let word = |at: usize| words.get(at).copied().unwrap_or(0);
+    let number = |at: usize| word(at) as u32;
+    let [n, s, c] = [0, 1, 2].map(number);
+    if !(1..=ENTRANTS).contains(&n) || !(1..=GROUPS).contains(&s) || c > LINES {
+        return None;
+    }
+    let group = |index: u32| {
+        let at = FIRST_GROUP + GROUP_WORDS * index as usize;
+        group_of(n, Group { fixed: word(at), possible: word(at + 1), low: number(at + 2), high: number(at + 3) })
+    };
+    let line = |index: u32| {
+        let at = FIRST_LINE + LINE_WORDS * index as usize;
+        let members: Vec<u32> = (0..MEMBERS).map(|member| number(at + 2 + member)).collect();
+        line_of(s, number(at), number(at + 1), &members)
+    };
+    Some(Model { entrants: n, groups: (0..s).map(group).collect::<Option<_>>()?, constraints: (0..c).map(line).collect::<Option<_>>()? })
+}
+
+/// Entrants up to n, fixed within possible, low ≤ high ≤ n.
+fn group_of(n: u32, group: Group) -> Option<Group> {
+    let good = group.possible >> n == 0 && group.fixed & !group.possible == 0 && group.low <= group.high && group.high <= n;
+    good.then_some(group)
+}
+
+/// A code and its k as on a sheet, groups 1 to s, all different.
+fn line_of(s: u32, code: u32, k: u32, members: &[u32]) -> Option<Constraint> {
+    let many = match code {
+        1 | 2 => 2,
+        3..=5 => 3,
+        6 if (UNION_MIN..=UNION_MAX).contains(&k) => 1 + k as usize,
+        _ => return None,
+    };
+    let members = &members[..many];
+    let good = |at: usize| (1..=s).contains(&members[at]) && !members[..at].contains(&members[at]);
+    (0..many).all(good).then(|| Constraint { code, groups: members.iter().map(|&number| number as usize - 1).collect() })
+}
+
+#[cfg(test)]
+mod tests {
+    use super::*;
+    use crate::sheet::read;
+
+    const SHEET: &str = "   1   3   2   1\n   2   1   1   1   1   1   1\n   2   2   0   3   1   1   0\n   3   2   1   2\n";
+
+    #[test]
+    fn words_and_back_whatever_stands_past_the_model() {
+        let model = read(SHEET.as_bytes()).unwrap();
+        for rest in [0, 7, u64::MAX] {
+            assert_eq!(from_words(&to_words(&model, rest)), Ok(model.clone()));
+        }
+    }
+
+    #[test]
+    fn refusal_20_by_each_field() {
+        let words = to_words(&read(SHEET.as_bytes()).unwrap(), 0);
+        let bad = [(0, 33), (1, 257), (1, 1), (2, 257), (3, 16), (4, 8), (5, 2), (6, 4), (1027, 7), (1027, 6), (1029, 3), (1029, 2), (1030, 0)];
+        for (place, value) in bad {
+            let mut words = words.clone();
+            words[place] = value;
+            assert_eq!(from_words(&words), Err(20), "word {place} as {value}");
+        }
+    }
+}
