@@ -6,8 +6,8 @@ use Prim.Native.Nat.{ℕ, zero, suc, _+_, _≤_, _<_}
 use native.Mathlib.Nat.{zero-add}
 use native.Mathlib.Omega.{arith}
 use native.Mathlib.Decide.{decLt}
-use borrow.Author.Tests.{lt-ltb, le-ltb, ne-eqb}
-use lib.Dec.{T, ltb, eqb, eqb·suc-zero, nltb→le}
+use borrow.Author.Tests.{lt-ltb, le-ltb, ne-eqb, leb-true, leb-false, not-true, not-false}
+use lib.Dec.{T, leb, ltb, eqb, eqb·suc-zero, nltb→le}
 use lib.ListN.{length, drop}
 use Rattle.model.specs.declared.Model.{Model}
 use Rattle.model.specs.declared.Written.{Written}
@@ -54,7 +54,7 @@ module _ (m : Model) (b room : ℕ) where
   abbrev rest : ℕ
   rest = stop (hasEmptyClause m b) 29 (stop (ltb room (length (blockText m b))) 24 0)
 
-  refused-first : (judgement m b ≡ 0 → ⊥) → blockRefusal m b room ≡ judgement m b
+  pub refused-first : (judgement m b ≡ 0 → ⊥) → blockRefusal m b room ≡ judgement m b
   unfolding blockRefusal judgement
   refused-first h = go (decLt 0 (unsettledOr m 0))
     where
@@ -112,6 +112,13 @@ module _ (m : Model) (b r : ℕ) (e : r ≡ judgement m b) (z : r ≡ 0) where
 
 -- ---- a settled model's block
 
+module _ {t : Bool} (m : Model) (b left : ℕ) (e : t ≡ leb (length (blockText m b)) left) where
+  pub does-fit : not t ≡ false → length (blockText m b) ≤ left
+  does-fit h = leb-true (length (blockText m b)) left (sym e ∙ not-false t h)
+
+  pub does-not-fit : not t ≡ true → left < length (blockText m b)
+  does-not-fit h = leb-false (length (blockText m b)) left (sym e ∙ not-true t h)
+
 module _ (m : Model) (q : Settled m) (b : ℕ) (h : b ≤ blockCount m) where
   judged-24 : (room : ℕ) → blockRefusal m b room ≡ stop (ltb room (length (blockText m b))) 24 0
   unfolding blockRefusal
@@ -119,23 +126,29 @@ module _ (m : Model) (q : Settled m) (b : ℕ) (h : b ≤ blockCount m) where
       settled-rest m (q .in-range) (q .fixpoint) _
       ∙ rw (le-ltb (blockCount m) b h, T-false (hasEmptyClause m b) (no-empty-clause m q b))
 
+  pub refused-24 : (room : ℕ) → room < length (blockText m b) → blockRefusal m b room ≡ 24
+  refused-24 room l = rw (judged-24 room, lt-ltb room (length (blockText m b)) l)
+
+  pub not-refused : (room : ℕ) → length (blockText m b) ≤ room → blockRefusal m b room ≡ 0
+  not-refused room l = rw (judged-24 room, le-ltb room (length (blockText m b)) l)
+
   pub too-short : (room : ℕ) → room < length (blockText m b) → Refused 24 ≡ writtenBlock m b room
   unfolding writtenBlock
-  too-short room l = rw (judged-24 room, lt-ltb room (length (blockText m b)) l)
+  too-short room l = rw (refused-24 room l)
 
   pub short-buffer : (buf : List ℕ) → length buf < length (blockText m b) → buf ≡ blockBuffer m b buf
   unfolding blockBuffer
-  short-buffer buf l = rw (judged-24 (length buf), lt-ltb (length buf) (length (blockText m b)) l)
+  short-buffer buf l = rw (refused-24 (length buf) l)
 
   pub long-enough : (room n : ℕ) → n ≡ length (blockText m b) → n ≤ room → Bytes n ≡ writtenBlock m b room
   unfolding writtenBlock
-  long-enough room n e l = rw (judged-24 room, le-ltb room (length (blockText m b)) (omega arith), e)
+  long-enough room n e l = rw (not-refused room (omega arith), e)
 
   pub written-buffer : (buf after : List ℕ) (n : ℕ) → Wrote (blockText m b) 0 buf after n → after ≡ blockBuffer m b buf
   unfolding blockBuffer
   written-buffer buf after n w =
       let l : length (blockText m b) ≤ length buf = omega (arith, w .next, w .inside) in
-      rw (judged-24 (length buf), le-ltb (length buf) (length (blockText m b)) l) (w .bytes ∙ ap (λ (k : ℕ). blockText m b ++ drop k buf) (zero-add (length (blockText m b))))
+      rw (not-refused (length buf) l) (w .bytes ∙ ap (λ (k : ℕ). blockText m b ++ drop k buf) (zero-add (length (blockText m b))))
 
 -- ---- the answer by the paper's number and value
 

@@ -2,7 +2,7 @@
 ghost use mathlib.Core.Path.{_≡_};
 ghost use mathlib.Core.Bool.{true, false, cond};
 ghost use mathlib.Core.List.{[], _∷_, map};
-ghost use lib.Dec.{T};
+ghost use lib.Dec.{T, leb};
 ghost use Prim.Native.Nat.{suc, _+_, _-_, _*_, _≤_, _<_};
 ghost use lib.ListN.{length, take, getD};
 ghost use Rattle.model.specs.Lists.{any, each, every, between, range, total};
@@ -998,21 +998,29 @@ fn whole(groups: [Group; Model::GROUPS], constraints: [Constraint; Model::CONSTR
     ensures { λ r. ⌜ (length groups ≡ limits .groups) × (length constraints ≡ limits .constraints) ⌝ }
 {}
 
-// Block b of a settled model. A buffer that holds every block is written at once, a shorter one measured first.
+// Whether block b of a settled model fits in `left` bytes. It is measured only where some block would not.
+fn fits(m: Model, v: Numbering, b: u32, left: usize) -> bool
+    requires { ⌜ Settled m × (v ≡ numberingOf m) ⌝ }
+    requires { ⌜ b ≤ blockCount m ⌝ }
+    ensures { λ r. ⌜ r ≡ leb (length (blockText m b)) left ⌝ }
+{
+    if left < Model::BLOCK_BYTES {
+        let mut scratch = [0u8; Model::BLOCK_BYTES];
+        let k = put_block(&mut scratch, 0, m, v, b);
+        return k <= left;
+    }
+    true
+}
+
+// Block b of a settled model, where it fits.
 fn write_settled(m: Model, b: u32, buf: &mut [u8]) -> Written
     requires { ⌜ Settled m × (b ≤ blockCount m) ⌝ }
     ensures { λ r. ⌜ r ≡ writtenBlock m b (length (now (buf .entry))) ⌝ }
     ensures { λ r. ⌜ now (buf .exit) ≡ blockBuffer m b (now (buf .entry)) ⌝ }
 {
     let v = numbering::of_model(m);
-    if buf.len() < Model::BLOCK_BYTES {
-        let mut scratch = [0u8; Model::BLOCK_BYTES];
-        let k = put_block(&mut scratch, 0, m, v, b);
-        if buf.len() < k {
-            return Written::Refused(24);
-        }
-        let n = put_block(buf, 0, m, v, b);
-        return Written::Bytes(n);
+    if !fits(m, v, b, buf.len()) {
+        return Written::Refused(24);
     }
     let n = put_block(buf, 0, m, v, b);
     Written::Bytes(n)
@@ -1043,9 +1051,9 @@ pub struct Run {
     pub length: usize,
 }
 
-// The blocks of a settled model from b on, each while the buffer has room for any block.
+// The blocks of a settled model from b on, while each fits in what is left.
 fn write_run(m: Model, b: u32, buf: &mut [u8]) -> Run
-    requires { ⌜ Settled m × (b ≤ blockCount m) × (judgement m b ≡ 0) ⌝ }
+    requires { ⌜ Settled m × (b ≤ blockCount m) ⌝ }
     ensures { λ r. ⌜ r ≡ runOf m b (length (now (buf .entry))) ⌝ }
     ensures { λ r. ⌜ now (buf .exit) ≡ runBuffer m b (now (buf .entry)) ⌝ }
 {
@@ -1054,7 +1062,15 @@ fn write_run(m: Model, b: u32, buf: &mut [u8]) -> Run
     let mut at: usize = 0;
     let mut x = b;
     while x <= last {
-        if buf.len() - at < Model::BLOCK_BYTES {
+        let left = buf.len() - at;
+        if !fits(m, v, x, left) {
+            if x == b {
+                return Run {
+                    refusal: 24,
+                    next: b,
+                    length: 0,
+                };
+            }
             return Run {
                 refusal: 0,
                 next: x,
@@ -1071,7 +1087,7 @@ fn write_run(m: Model, b: u32, buf: &mut [u8]) -> Run
     }
 }
 
-// The same for every model: 20, 22 and 23 are judged once for the whole run.
+// The same for every model, refused as `write_block` refuses block b. 20, 22 and 23 are judged once for the whole run.
 pub fn write_blocks(m: Model, b: u32, buf: &mut [u8]) -> Run
     ensures { λ r. ⌜ r ≡ runOf m b (length (now (buf .entry))) ⌝ }
     ensures { λ r. ⌜ now (buf .exit) ≡ runBuffer m b (now (buf .entry)) ⌝ }

@@ -1,7 +1,8 @@
 -- `write_blocks` judges once, then writes a run. Assumes nothing.
 use mathlib.Core.Path.{sym, _∙_}
+use lib.ListN.{length}
 use borrow.Author.Needs.{needs}
-use Rattle.cnf.proofs.Entry.{judged-settled, judged-block}
+use Rattle.cnf.proofs.Entry.{refused-first, judged-settled, judged-block}
 use Rattle.cnf.proofs.Runs.{refused-answer, refused-buffer}
 use Rattle.cnf.proofs.write_blocks.Statement.{statement}
 use Rattle.cnf.proofs.write_blocks.Tie as tie
@@ -12,7 +13,8 @@ judged-requires c κs = search needs
 returns : tie.Need-returns
 returns c =
     let a = c .before .before .before .args in
-    let e = c .before .judged .ensures in
+    let j = c .before .judged .ensures in
+    let e = j ∙ sym (refused-first (a .m) (a .b) (length (a .buf .now)) (λ z. c .if1 .taken (j ∙ z))) in
     (refused-answer (a .m) (a .b) (a .buf .now) _ e (c .if1 .taken), refused-buffer (a .m) (a .b) (a .buf .now) _ e (c .if1 .taken))
 
 whole-requires : tie.Need-whole-requires
@@ -23,7 +25,7 @@ write-run-requires c κs =
     let a = c .before .before .before .before .before .before .before .args in
     let e = c .before .before .before .before .before .judged .ensures in
     let z = c .before .before .before .before .if1 .left in
-    (judged-settled (a .m) (a .b) _ e z (c .before .whole .ensures .0) (c .before .whole .ensures .1), judged-block (a .m) (a .b) _ e z, sym e ∙ z)
+    (judged-settled (a .m) (a .b) _ e z (c .before .whole .ensures .0) (c .before .whole .ensures .1), judged-block (a .m) (a .b) _ e z)
 
 same-length : tie.Need-same-length
 same-length c = search needs

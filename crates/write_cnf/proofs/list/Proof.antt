@@ -69,8 +69,7 @@ loop-less c =
     let m = c .before .before .before .before .before .before .before .before .before .before .before .before .args .m in
     let k = c .before .before .before .before .before .before .before .before .before .before .block-count .ensures .0 in
     let h = no-more (inRange m) (blockCount m) in
-    let n = run-moves m (c .before .before .before .before .before .before .before .before .before .loop .b) _ _ (c .before .before .before .before .before .before .write-blocks .ensures .0) (c .before .before .before .if1 .left) (omega (arith, c .before .before .before .before .before .before .before .before .loop-test .taken))
-    (omega (arith, c .before .before .before .before .before .before .before .before .before .loop .inv)) in
+    let n = run-moves m (c .before .before .before .before .before .before .before .before .before .loop .b) _ _ (c .before .before .before .before .before .before .write-blocks .ensures .0) (c .before .before .before .if1 .left) (omega (arith, c .before .before .before .before .before .before .before .before .loop-test .taken)) in
     omega (arith, n, c .before .before .before .before .before .before .before .before .loop-test .taken)
 
 loop-again : tie.Need-loop-again Inv-loop μ-loop
