@@ -1091,6 +1091,7 @@ fn write_run(m: Model, b: u32, buf: &mut [u8]) -> Run
 pub fn write_blocks(m: Model, b: u32, buf: &mut [u8]) -> Run
     ensures { λ r. ⌜ r ≡ runOf m b (length (now (buf .entry))) ⌝ }
     ensures { λ r. ⌜ now (buf .exit) ≡ runBuffer m b (now (buf .entry)) ⌝ }
+    ensures { λ r. ⌜ r .length ≤ (limits .groups + limits .constraints + 1) * limits .block ⌝ }
 {
     let refusal = judged(m, b);
     if refusal != 0 {

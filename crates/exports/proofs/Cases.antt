@@ -22,8 +22,9 @@ use Rattle.model.specs.Text.{writtenBlock, blockBuffer}
 use Rattle.model.specs.Close.{closed}
 use Rattle.model.proofs.Lists.{true-T}
 use Rattle.propagation_laws.proofs.Ranges.{in-range}
+use Rattle.cnf.specs.Run.{runOf, runBuffer}
 use Rattle.exports.specs.Words.{groupWords}
-use Rattle.exports.specs.Draw.{numbered, settledSheet, fitted, settleNumber, tableAfter, sheetBlock, writtenNumber, drawBlock, drawBuffer, readingOf, noGroups, closedSheet, fittedClosing, groupsAfter}
+use Rattle.exports.specs.Draw.{numbered, settledSheet, fitted, settleNumber, tableAfter, sheetBlock, writtenNumber, drawBlock, drawBuffer, sheetRun, runNumber, drawBlocks, drawRun, readingOf, noGroups, closedSheet, fittedClosing, groupsAfter}
 
 -- ---- the reader's refusal comes first
 
@@ -89,7 +90,7 @@ module _ (p : Propagated) (table : List ℕ) where
     unfolding fitted tableOf
     laid-table h = rw (z, le-ltb (length table) (4 * p .model .s) h)
 
--- ---- what a block and closing answer
+-- ---- what a block, a run of blocks and closing answer
 
 module _ (b : List ℕ) (p : Propagated) (e : p ≡ settledSheet b) where
   module _ (h : p .refusal ≡ 0 → ⊥) where
@@ -100,6 +101,18 @@ module _ (b : List ℕ) (p : Propagated) (e : p ≡ settledSheet b) where
     pub buffer-left : (block : ℕ) (buffer : List ℕ) → buffer ≡ drawBuffer b block buffer
     unfolding drawBuffer
     buffer-left block buffer = rw (← e, ne-eqb (p .refusal) 0 h)
+
+    run-is : (block room : ℕ) → sheetRun b block room ≡ record { refusal = p .refusal; next = block; length = 0 }
+    unfolding sheetRun
+    run-is block room = rw (← e, ne-eqb (p .refusal) 0 h)
+
+    pub run-refused : (block room : ℕ) → p .refusal ≡ drawBlocks b block room
+    unfolding drawBlocks
+    run-refused block room = rw (run-is block room, ne-eqb (p .refusal) 0 h)
+
+    pub run-left : (block : ℕ) (buffer : List ℕ) → buffer ≡ drawRun b block buffer
+    unfolding drawRun
+    run-left block buffer = rw (← e, ne-eqb (p .refusal) 0 h)
 
     pub closing-refused : (flag : ℕ) (values : List ℕ) → noGroups (p .refusal) ≡ closedSheet b flag values
     unfolding closedSheet
@@ -113,6 +126,14 @@ module _ (b : List ℕ) (p : Propagated) (e : p ≡ settledSheet b) where
     pub buffer-written : (block : ℕ) (buffer : List ℕ) → blockBuffer (p .model) block buffer ≡ drawBuffer b block buffer
     unfolding drawBuffer
     buffer-written block buffer = rw (← e, z)
+
+    pub run-written : (block room : ℕ) → runNumber (runOf (p .model) block room) ≡ drawBlocks b block room
+    unfolding drawBlocks sheetRun
+    run-written block room = rw (← e, z)
+
+    pub run-laid : (block : ℕ) (buffer : List ℕ) → runBuffer (p .model) block buffer ≡ drawRun b block buffer
+    unfolding drawRun
+    run-laid block buffer = rw (← e, z)
 
     pub closing : (flag : ℕ) (values : List ℕ) → closed (p .model) (readingOf flag) values ≡ closedSheet b flag values
     unfolding closedSheet

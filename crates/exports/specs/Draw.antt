@@ -18,6 +18,8 @@ use Rattle.model.specs.Propagate.{propagated, refusedPropagation}
 use Rattle.model.specs.Text.{writtenBlock, blockBuffer, writtenRefusal, writtenLength}
 use Rattle.model.specs.Assignment.{lineRead}
 use Rattle.model.specs.Close.{closed}
+use Rattle.cnf.specs.declared.Run.{Run}
+use Rattle.cnf.specs.Run.{runOf, runBuffer}
 use Rattle.exports.specs.Words.{groupWords, modelFrom}
 
 -- a refusal and a line, or a refusal and passes, in one number
@@ -83,6 +85,25 @@ drawBuffer sheet block buffer =
 -- and of a model
 unfoldable pub modelBlock : List ℕ → ℕ → ℕ → ℕ
 modelBlock words block room = writtenNumber (writtenBlock (modelFrom words) block room)
+
+-- ---- a run of blocks of the settled sheet
+
+unfoldable pub sheetRun : List ℕ → ℕ → ℕ → Run
+sheetRun sheet block room =
+    let p = settledSheet sheet in
+    cond (eqb (p .refusal) 0) (runOf (p .model) block room) (record { refusal = p .refusal; next = block; length = 0 })
+
+-- the next block, which is never 0, and the text's length in one number; or the refusal
+abbrev pub runNumber : Run → ℕ
+runNumber r = cond (eqb (r .refusal) 0) (r .next * 4294967296 + r .length) (r .refusal)
+
+unfoldable pub drawBlocks : List ℕ → ℕ → ℕ → ℕ
+drawBlocks sheet block room = runNumber (sheetRun sheet block room)
+
+unfoldable pub drawRun : List ℕ → ℕ → List ℕ → List ℕ
+drawRun sheet block buffer =
+    let p = settledSheet sheet in
+    cond (eqb (p .refusal) 0) (runBuffer (p .model) block buffer) buffer
 
 -- ---- a solver line
 

@@ -9,7 +9,8 @@ ghost use Rattle.model.specs.Limits.{limits};
 ghost use Rattle.model.specs.Assignment.{valuesAfter};
 ghost use Rattle.model.specs.Text.{blockBuffer};
 ghost use Rattle.exports.specs.Words.{groupWords, wordAt, numberAt, groupFrom, membersFrom, constraintFrom, modelFrom};
-ghost use Rattle.exports.specs.Draw.{numbered, drawRead, settledSheet, fitted, settleNumber, tableAfter, drawSettle, drawTable, modelSettle, modelTable, writtenNumber, drawBlock, drawBuffer, modelBlock, readingOf, lineNumber, drawLine, closedSheet, fittedClosing, groupsAfter, drawClose, drawGroups, modelClose, modelGroups};
+ghost use Rattle.exports.specs.Draw.{numbered, drawRead, settledSheet, fitted, settleNumber, tableAfter, drawSettle, drawTable, modelSettle, modelTable, writtenNumber, drawBlock, drawBuffer, modelBlock, runNumber, drawBlocks, drawRun, readingOf, lineNumber, drawLine, closedSheet, fittedClosing, groupsAfter, drawClose, drawGroups, modelClose, modelGroups};
+use cnf::Run;
 use model::Closed;
 use model::Constraint;
 use model::Group;
@@ -255,6 +256,32 @@ pub extern "C" fn draw_block_model(words: &[u64], block: u32, buffer: &mut [u8])
     let m = model_from(words);
     let w = cnf::write_block(m, block, buffer);
     written_number(w)
+}
+
+// Of a run: next * 4294967296 + length, where next is never 0; or the refusal.
+fn run_number(r: Run) -> u64
+    requires { ⌜ r .length < 4294967296 ⌝ }
+    ensures { λ k. ⌜ k ≡ runNumber r ⌝ }
+{
+    if r.refusal != 0 {
+        return r.refusal as u64;
+    }
+    r.next as u64 * 4294967296 + r.length as u64
+}
+
+// Blocks of the settled sheet, from one on while they fit.
+#[no_mangle]
+pub extern "C" fn draw_blocks(sheet: &[u8], block: u32, buffer: &mut [u8]) -> u64
+    ensures { λ r. ⌜ r ≡ drawBlocks (now (sheet .entry)) block (length (now (buffer .entry))) ⌝ }
+    ensures { λ r. ⌜ now (buffer .exit) ≡ drawRun (now (sheet .entry)) block (now (buffer .entry)) ⌝ }
+{
+    let p = settled(sheet);
+    if p.refusal != 0 {
+        return p.refusal as u64;
+    }
+    let m = p.model;
+    let r = cnf::write_blocks(m, block, buffer);
+    run_number(r)
 }
 
 // A refusal, and 1 where the reading is closed.

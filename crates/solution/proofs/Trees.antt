@@ -3,9 +3,9 @@ use mathlib.Core.Path.{_≡_, refl, sym, ap, _∙_, subst}
 use mathlib.Core.Logic.{_↔_}
 use mathlib.Core.Bool.{Bool, true, false, cond, Bool·beq, _&&_}
 use mathlib.Core.List.{List, _∷_}
-use Prim.Native.Nat.{ℕ, zero, suc, _+_, _-_, _/_, _≤_, _<_, min}
+use Prim.Native.Nat.{ℕ, zero, suc, _+_, _-_, _/_, _≤_, _<_}
 use native.Mathlib.Omega.{arith}
-use lib.Dec.{T, ltb}
+use lib.Dec.{T, leb, ltb}
 use Rattle.model.specs.Lists.{total, range}
 use Rattle.model.specs.Totalizer.{Shape, node, shape, leaves, outputs, treeClauses, treeOutputCount}
 use Rattle.model.specs.Close.{truth}
@@ -92,7 +92,8 @@ node-holds a l r v o =
 -- ---- the tree of a size
 
 -- the outputs of the halves, k and j
-pub halves : (m k j : ℕ) → m ≤ limits .word → 2 ≤ m → k ≡ treeOutputCount (min (m / 2) (limits .word)) → j ≡ treeOutputCount (min (m - m / 2) (limits .word))
+pub halves : (m k j : ℕ) → m ≤ limits .word → 2 ≤ m → k ≡ cond (leb (m / 2) (limits .word)) (treeOutputCount (m / 2)) 0
+    → j ≡ cond (leb (m - m / 2) (limits .word)) (treeOutputCount (m - m / 2)) 0
     → (k ≡ treeOutputCount (m / 2)) × (j ≡ treeOutputCount (m - m / 2)) × (treeOutputCount m ≡ m + k + j)
 halves m k j h l p q =
     let a : k ≡ treeOutputCount (m / 2) = p ∙ within-word (m / 2) (omega arith) in

@@ -1,14 +1,14 @@
 -- `tree_holds` judges left half, right half, then the node's own outputs; the size falls at each call. Assumes nothing.
-use mathlib.Core.Path.{ap}
+use mathlib.Core.Path.{ap, _∙_}
 use native.Mathlib.Omega.{arith}
 use borrow.Author.Needs.{needs}
 use borrow.Author.Tests.{not-true, not-false}
 use Rattle.model.specs.Close.{assignmentOf}
 use Rattle.model.specs.Limits.{limits}
 use Rattle.encoding_laws.proofs.Bounds.{outputs-mono}
-use Rattle.numbering.proofs.Totalizers.{outputs-few}
+use Rattle.numbering.proofs.Totalizers.{outputs-few, within-word}
 use Rattle.solution.proofs.Trees.{halves, leaf-holds, left-fails, right-fails, own-decides}
-use Prim.Native.Nat.{ℕ, _+_, _/_, _<_, min}
+use Prim.Native.Nat.{ℕ, _+_, _/_, _<_}
 use borrow.Fn.Kinds.{In}
 use borrow.Fn.PlainCycle.{Measures, is, falls, and}
 use Rattle.solution.proofs.tree_holds.Reads as tree-holds
@@ -89,7 +89,10 @@ tree-holds-add-p : (t : ℕ) → tree-holds-lts.Need-add-p (
   counts-to-reads.Asked,
   counts-to-reads.Learnt,
 ) (tree-holds-at t) tree-holds.Post
-tree-holds-add-p t c = let k = (c .output-count .ensures) in let f = outputs-mono (min (c .before .before .before .args .m / 2) (limits .word)) (limits .word) (omega arith) in omega (arith, outputs-few)
+tree-holds-add-p t c =
+    let m = c .before .before .before .args .m in
+    let k = c .output-count .ensures ∙ within-word (m / 2) (omega arith) in
+    omega (arith, k, outputs-mono (m / 2) (limits .word) (omega arith), outputs-few)
 
 tree-holds-output-count-requires-2 : (t : ℕ) → tree-holds-lts.Need-output-count-requires-2 (
   output-count-reads.Asked,
