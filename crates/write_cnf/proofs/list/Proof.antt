@@ -45,12 +45,12 @@ returns c = tt
 array-share-prefix-piece : tie.Need-array-share-prefix-piece Inv-loop μ-loop
 array-share-prefix-piece c =
     let w = c .before .before .before .write-blocks in
-    omega (arith, run-inside _ _ _ _ _ (w .ensures .0) (w .ensures .1) (w .kept .1 .1 .0), w .kept .1 .1 .0)
+    omega (arith, run-inside _ _ _ _ _ (w .ensures .0) (w .ensures .1 .0) (w .kept .1 .1 .0), w .kept .1 .1 .0)
 
 slice-aggregate-write-all : tie.Need-slice-aggregate-write-all Inv-loop μ-loop
 slice-aggregate-write-all c =
     let w = c .before .before .before .before .write-blocks in
-    omega (arith, length-take (w .result .length) (w .last .1 .1 .0), run-inside _ _ _ _ _ (w .ensures .0) (w .ensures .1) (w .kept .1 .1 .0), w .kept .1 .1 .0)
+    omega (arith, length-take (w .result .length) (w .last .1 .1 .0), run-inside _ _ _ _ _ (w .ensures .0) (w .ensures .1 .0) (w .kept .1 .1 .0), w .kept .1 .1 .0)
 
 write-all-requires : tie.Need-write-all-requires Inv-loop μ-loop
 write-all-requires c κs = tt
