@@ -2,11 +2,11 @@
 -- Assumes nothing.
 use Prim.Native.Nat.{ℕ, suc, _+_, _-_, _≤_, _<_}
 use mathlib.Core.Path.{_≡_, refl, ap, sym, _∙_, subst}
-use mathlib.Core.Bool.{Bool, true, false, _||_}
+use mathlib.Core.Bool.{Bool, true, false, cond, _||_}
 use mathlib.Core.List.{List, [], _∷_, _++_, append-assoc}
 use native.Mathlib.Decide.{ℕ-discrete}
 use native.Mathlib.Omega.{arith}
-use borrow.Author.Tests.{eq-eqb, ne-eqb, ltb-false, lt-ltb, le-ltb}
+use borrow.Author.Tests.{eq-eqb, ne-eqb, ltb-false}
 use lib.Dec.{ltb, eqb}
 use lib.ListN.{length, getD, set, take, drop, length-set, length-append}
 use lib.Seq.{getD-set-same, getD-set-other, take-at}
@@ -18,8 +18,10 @@ use Rattle.model.specs.Lists.{stop}
 use Rattle.model.specs.Assignment.{wordsOf, wordValue, isSaid, variable, valueFor, withValue, literalsRefusal, withValues}
 use Rattle.model.proofs.Lists.{or-false, All, all-append, or-assoc}
 use Rattle.model.proofs.Solver.{Named, word-named}
-use Rattle.assignment.specs.Line.{wordLength, ifNames, named, names?, judged, Noted, notedWith}
-use Rattle.assignment.proofs.Words.{is-some, is-last, is-more, isNames, named-names, named-end, noted-next}
+use Rattle.assignment.specs.declared.Place.{Place}
+use Rattle.assignment.specs.declared.Place.the-variants.{Free, Above, Taken}
+use Rattle.assignment.specs.Line.{wordLength, ifNames, named, wordsRefusal, names?, judged, newPlace, placeRefusal, Noted, notedWith}
+use Rattle.assignment.proofs.Words.{k-le, word-size, is-more, first-last, first-more, first-some, isNames, named-names, named-end, allNamed, all-names, all-end, words-bad, words-end, words-good, isFree, place-bad, place-free, noted-next}
 
 pub named-all : (ws : List (List ℕ)) → All Named (named ws)
 named-all [] = tt
@@ -95,86 +97,122 @@ judged-is (l ∷ ls) seen values n m =
         let t = ap (λ (x : ℕ). isSaid (getD values (variable l - 1) 0) || names? x seen) i in
         rw (s ∙ t, ih) (stop-or (isSaid (getD values (variable l - 1) 0)) (names? (variable l) seen) 12 (judged (seen ++ (l ∷ [])) ls values))
 
--- ---- the loop over a line's literals: `count` of them were looked at and are noted, the rest stands from place `at` on
+-- ---- the loop over a line's first m words: `count` literals were looked at and are noted, the rest stands from place `at` on
 
-pub record Looking (s values flags : List ℕ) (at count : ℕ) : Type 0 where
+pub record Looking (s values flags : List ℕ) (m at count : ℕ) : Type 0 where
   pub place : at ≤ length s
   pub few : count ≤ at
   pub parts : named (wordsOf s) ≡ take count (named (wordsOf s)) ++ named (wordsOf (drop at s))
   pub long : length (take count (named (wordsOf s))) ≡ count
   pub noted : Noted flags (take count (named (wordsOf s)))
-  pub same : literalsRefusal (named (wordsOf s)) values ≡ judged (take count (named (wordsOf s))) (named (wordsOf (drop at s))) values
+  pub same : literalsRefusal (named (take m (wordsOf s))) values ≡ judged (take count (named (wordsOf s))) (named (take (m - count) (wordsOf (drop at s)))) values
+  pub whole : allNamed (take m (wordsOf s)) ≡ allNamed (take (m - count) (wordsOf (drop at s)))
 
-pub look-start : (s values flags : List ℕ) → Noted flags [] → Looking s values flags 0 0
-look-start s values flags n = record {
-  place = omega arith;
-  few = omega arith;
-  parts = refl;
-  long = refl;
-  noted = n;
-  same = judged-is (named (wordsOf s)) [] values tt (named-all (wordsOf s));
-}
+pub look-start : (s values flags : List ℕ) (m : ℕ) → Noted flags [] → Looking s values flags m 0 0
+look-start s values flags m n =
+    let z : m ≡ m - 0 = omega arith in
+    record {
+      place = omega arith;
+      few = omega arith;
+      parts = refl;
+      long = refl;
+      noted = n;
+      same = judged-is (named (take m (wordsOf s))) [] values tt (named-all (take m (wordsOf s))) ∙ ap (λ (i : ℕ). judged [] (named (take i (wordsOf s))) values) z;
+      whole = ap (λ (i : ℕ). allNamed (take i (wordsOf s))) z;
+    }
 
-module _ (s values flags : List ℕ) (at count : ℕ) (h : Looking s values flags at count) (k : ℕ) (e : k ≡ wordLength (take (length s - at) (drop at s))) where
+-- m words were looked at
+pub judge-done : (s values flags : List ℕ) (m at count : ℕ) → Looking s values flags m at count → m ≤ count → 0 ≡ wordsRefusal (take m (wordsOf s)) values
+judge-done s values flags m at count h d =
+    let z : m - count ≡ 0 = omega arith in
+    sym (words-good (take m (wordsOf s)) values
+    (h .same ∙ ap (λ (i : ℕ). judged (take count (named (wordsOf s))) (named (take i (wordsOf (drop at s)))) values) z)
+    (h .whole ∙ ap (λ (i : ℕ). allNamed (take i (wordsOf (drop at s)))) z))
+
+module _ {s values flags : List ℕ} {m at count : ℕ} (h : Looking s values flags m at count) (left : count < m) {k : ℕ} (e : k ≡ wordLength (take (length s - at) (drop at s))) where
   abbrev word : List ℕ
   word = take k (take (length s - at) (drop at s))
 
   abbrev all : List Literal
   all = named (wordsOf s)
 
-  pub judge-end : isNames (wordValue word) ≡ false → literalsRefusal (named (wordsOf s)) values ≡ 0
+  pub judge-le : at + k ≤ length s
+  judge-le = k-le s at k (h .place) e
+
+  pub judge-size : k ≡ length (take k (take (length s - at) (drop at s)))
+  judge-size = word-size s at k (h .place) e
+
+  pub judge-end : isNames (wordValue (take k (take (length s - at) (drop at s)))) ≡ false → 10 ≡ wordsRefusal (take m (wordsOf s)) values
   judge-end f =
-      let w = is-some s at k (h .place) e in
-      h .same ∙ ap (λ (ls : List Literal). judged (take count all) ls values) (ap named (w .1) ∙ named-end word (w .0) f)
+      let w = first-some s at k (h .place) e m count left in
+      sym (words-end (take m (wordsOf s)) values
+      (h .same ∙ ap (λ (ls : List Literal). judged (take count all) ls values) (ap named (w .1) ∙ named-end word (w .0) f))
+      (h .whole ∙ ap allNamed (w .1) ∙ all-end word (w .0) f))
 
-  module _ (l : Literal) (is : wordValue word ≡ Names l) where
-    here : (ws : List (List ℕ)) → wordsOf (drop at s) ≡ word ∷ ws → named (wordsOf (drop at s)) ≡ l ∷ named ws
-    here ws q = ap named q ∙ named-names word ws l is
+  module _ {l : Literal} (is : wordValue (take k (take (length s - at) (drop at s))) ≡ Names l) {v : ℕ} (p : v ≡ variable l) where
+    pub judge-named : 1 ≤ v
+    judge-named = rw p (word-named word l is)
 
-    pub judge-named : 1 ≤ variable l
-    judge-named = word-named word l is
+    step : (ws : List (List ℕ)) → take (m - count) (wordsOf (drop at s)) ≡ word ∷ ws
+        → literalsRefusal (named (take m (wordsOf s))) values ≡ judged (take count all) (l ∷ named ws) values
+    step ws q = h .same ∙ ap (λ (ls : List Literal). judged (take count all) ls values) (ap named q ∙ named-names word ws l is)
 
-    step : (ws : List (List ℕ)) → wordsOf (drop at s) ≡ word ∷ ws → literalsRefusal all values ≡ judged (take count all) (l ∷ named ws) values
-    step ws q = h .same ∙ ap (λ (ls : List Literal). judged (take count all) ls values) (here ws q)
+    module _ {place : Place} (new : place ≡ newPlace (take count (named (wordsOf s))) v values) where
+      new-is : place
+          ≡ cond (ltb (length values) (variable l)) Above
+          (cond (isSaid (getD values (variable l - 1) 0)) Taken
+          (cond (names? (variable l) (take count all)) Taken (Free (variable l - 1))))
+      unfolding newPlace
+      new-is = new ∙ rw p
 
-    pub judge-11 : length values < variable l → literalsRefusal (named (wordsOf s)) values ≡ 11
-    judge-11 x = let w = is-some s at k (h .place) e in step (w .0) (w .1) ∙ rw (lt-ltb (length values) (variable l) x)
+      pub judge-bad : isFree place ≡ false → placeRefusal place ≡ wordsRefusal (take m (wordsOf s)) values
+      judge-bad f =
+          let w = first-some s at k (h .place) e m count left in
+          let x = judged (take count all ++ (l ∷ [])) (named (w .0)) values in
+          let b = place-bad place (variable l - 1) x (ltb (length values) (variable l)) (isSaid (getD values (variable l - 1) 0)) (names? (variable l) (take count all)) new-is f in
+          sym (words-bad (take m (wordsOf s)) values (placeRefusal place) (step (w .0) (w .1) ∙ b .0) (b .1))
 
-    module _ (low : variable l ≤ length values) where
-      pub judge-said : isSaid (getD values (variable l - 1) 0) ≡ true → literalsRefusal (named (wordsOf s)) values ≡ 12
-      judge-said x = let w = is-some s at k (h .place) e in step (w .0) (w .1) ∙ rw (le-ltb (length values) (variable l) low, x)
+      module _ {i : ℕ} (free : place ≡ Free i) where
+        good : (ws : List (List ℕ)) → take (m - count) (wordsOf (drop at s)) ≡ word ∷ ws
+            → literalsRefusal (named (take m (wordsOf s))) values ≡ judged (take count all ++ (l ∷ [])) (named ws) values
+        good ws q =
+            let b = place-free i (variable l - 1) (ltb (length values) (variable l)) (isSaid (getD values (variable l - 1) 0)) (names? (variable l) (take count all)) (sym free ∙ new-is) in
+            step ws q ∙ rw (b .0, b .1, b .2)
 
-      module _ (free : isSaid (getD values (variable l - 1) 0) ≡ false) where
-        pub judge-seen : names? (variable l) (take count (named (wordsOf s))) ≡ true → literalsRefusal (named (wordsOf s)) values ≡ 12
-        judge-seen x = let w = is-some s at k (h .place) e in step (w .0) (w .1) ∙ rw (le-ltb (length values) (variable l) low, free, x)
+        whole-here : (ws : List (List ℕ)) → take (m - count) (wordsOf (drop at s)) ≡ word ∷ ws → allNamed (take m (wordsOf s)) ≡ allNamed ws
+        whole-here ws q = h .whole ∙ ap allNamed q ∙ all-names word ws l is
 
-        module _ (new : names? (variable l) (take count (named (wordsOf s))) ≡ false) where
-          good : (ws : List (List ℕ)) → wordsOf (drop at s) ≡ word ∷ ws → literalsRefusal all values ≡ judged (take count all ++ (l ∷ [])) (named ws) values
-          good ws q = step ws q ∙ rw (le-ltb (length values) (variable l) low, free, new)
+        pub judge-last : at + k ≡ length s → 0 ≡ wordsRefusal (take m (wordsOf s)) values
+        judge-last x = let q = first-last s at k (h .place) e m count left x in sym (words-good (take m (wordsOf s)) values (good [] q) (whole-here [] q))
 
-          pub judge-last : at + k ≡ length s → literalsRefusal (named (wordsOf s)) values ≡ 0
-          judge-last x = good [] (is-last s at k (h .place) e x)
+        pub judge-more : at + k < length s → Looking s values (notedWith v flags) m (at + k + 1) (count + 1)
+        judge-more x =
+            let q = first-more s at k (h .place) e m count left x in
+            record {
+              place = omega arith;
+              few = omega (arith, h .few);
+              parts = split ∙ ap (λ (ls : List Literal). ls ++ rest) (sym taken);
+              long = ap length taken ∙ size;
+              noted = subst (λ (ls : List Literal). Noted (notedWith v flags) ls) (sym taken) (noted-next flags (take count all) l v p judge-named (h .noted));
+              same = good ahead q ∙ ap (λ (ls : List Literal). judged ls (named ahead) values) (sym taken);
+              whole = whole-here ahead q;
+            }
+          where
+            ahead : List (List ℕ)
+            ahead = take (m - (count + 1)) (wordsOf (drop (at + k + 1) s))
 
-          pub judge-more : at + k < length s → (v : ℕ) → v ≡ variable l → Looking s values (notedWith v flags) (at + k + 1) (count + 1)
-          judge-more x v p = record {
-            place = omega arith;
-            few = omega (arith, h .few);
-            parts = split ∙ ap (λ (ls : List Literal). ls ++ rest) (sym taken);
-            long = ap length taken ∙ size;
-            noted = subst (λ (ls : List Literal). Noted (notedWith v flags) ls) (sym taken) (noted-next flags (take count all) l v p (subst (λ (y : ℕ). 1 ≤ y) (sym p) judge-named) (h .noted));
-            same = good (wordsOf (drop (at + k + 1) s)) (is-more s at k (h .place) e x) ∙ ap (λ (ls : List Literal). judged ls rest values) (sym taken);
-          }
-            where
-              rest : List Literal
-              rest = named (wordsOf (drop (at + k + 1) s))
+            rest : List Literal
+            rest = named (wordsOf (drop (at + k + 1) s))
 
-              split : all ≡ (take count all ++ (l ∷ [])) ++ rest
-              split =
-                  h .parts ∙ ap (λ (ls : List Literal). take count all ++ ls) (here (wordsOf (drop (at + k + 1) s)) (is-more s at k (h .place) e x))
-                  ∙ sym (append-assoc (take count all) (l ∷ []) rest)
+            split : all ≡ (take count all ++ (l ∷ [])) ++ rest
+            split =
+                h .parts
+                ∙ ap (λ (ls : List Literal). take count all ++ ls)
+                (ap named (is-more s at k (h .place) e x) ∙ named-names word (wordsOf (drop (at + k + 1) s)) l is)
+                ∙ sym (append-assoc (take count all) (l ∷ []) rest)
 
-              size : length (take count all ++ (l ∷ [])) ≡ count + 1
-              size = length-append (take count all) (l ∷ []) ∙ ap (λ (n : ℕ). n + 1) (h .long)
+            size : length (take count all ++ (l ∷ [])) ≡ count + 1
+            size = length-append (take count all) (l ∷ []) ∙ ap (λ (n : ℕ). n + 1) (h .long)
 
-              taken : take (count + 1) all ≡ take count all ++ (l ∷ [])
-              taken = ap (take (count + 1)) split ∙ take-at (take count all ++ (l ∷ [])) rest (count + 1) size
+            taken : take (count + 1) all ≡ take count all ++ (l ∷ [])
+            taken = ap (take (count + 1)) split ∙ take-at (take count all ++ (l ∷ [])) rest (count + 1) size

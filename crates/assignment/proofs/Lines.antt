@@ -1,12 +1,12 @@
 -- A whole `v` line: its form, what a refused one answers and what a taken one does. Assumes nothing.
-use Prim.Native.Nat.{ℕ, zero, suc, _+_, _-_, _≤_, _<_}
+use Prim.Native.Nat.{ℕ, suc, _+_, _-_, _<_}
 use mathlib.Core.Path.{_≡_, refl, ap, sym, _∙_}
-use mathlib.Core.Bool.{Bool, true, false, cond, not, _&&_}
+use mathlib.Core.Bool.{Bool, true, false}
 use mathlib.Core.List.{List, [], _∷_}
 use mathlib.Core.Option.{Option, none, some}
 use native.Mathlib.Decide.{ℕ-discrete}
 use native.Mathlib.Omega.{arith}
-use borrow.Author.Tests.{eq-eqb, ne-eqb}
+use borrow.Author.Tests.{ne-eqb}
 use lib.Dec.{eqb}
 use lib.ListN.{length, getD, take, drop}
 use lib.Seq.{take-all}
@@ -14,12 +14,12 @@ use Rattle.model.specs.declared.Literal.{Literal}
 use Rattle.model.specs.declared.Word.{Word}
 use Rattle.model.specs.declared.Word.the-variants.{Names, Closing, Malformed}
 use Rattle.model.specs.declared.Reading.{Reading}
-use Rattle.model.specs.declared.LineRead.{LineRead}
-use Rattle.model.specs.Assignment.{wordsOf, wordValue, Said, nothingSaid, withLiteral, sayWord, sayWords, afterV, formOf, literalsRefusal, withValues, saidRefusal, isPassedOver, callRefusal, isTaken, saidBy, lineRead, valuesAfter}
+use Rattle.model.specs.Assignment.{wordsOf, wordValue, Said, nothingSaid, withLiteral, sayWord, sayWords, formOf, literalsRefusal, withValues, saidRefusal, isPassedOver, callRefusal, isTaken, lineRead, valuesAfter}
 use Rattle.assignment.specs.declared.Form.{Form}
-use Rattle.assignment.specs.declared.Form.the-variants.{Wrong, Open, Closed}
-use Rattle.assignment.specs.Line.{formFrom, isWrong, isClosed, ifNames, named, takenBy}
-use Rattle.assignment.proofs.Words.{words-some}
+use Rattle.assignment.specs.declared.Form.the-variants.{Wrong, Good}
+use Rattle.assignment.specs.declared.Shape.{Shape}
+use Rattle.assignment.specs.Line.{formFrom, formRefusal, formCount, formCloses, ifNames, named, wordsRefusal, takenBy}
+use Rattle.assignment.proofs.Words.{words-some, first-named, words-counted}
 use Rattle.assignment.proofs.Taken.{taken-good, taken-none}
 
 -- ---- the form
@@ -51,28 +51,17 @@ joined (b ∷ c ∷ bs) e f h g =
     let n : eqb (suc (suc (length (w .0)))) 1 ≡ false = ne-eqb (suc (suc (length (w .0)))) 1 (λ q. omega (arith, q)) in
     rw (e, ne-eqb c 32 g, w .2) (rw n)
 
--- a good form says something, closed or not
-pub said-of : (o : Option Said) (f : Form) → f ≡ formFrom o → isWrong f ≡ false → (s : Said) × (o ≡ some s) × (s .closed ≡ isClosed f)
-said-of none f e w = let z : _≡_ {A = ℕ} 0 1 = contradiction (ap isWrong (sym e) ∙ w) in absurd (omega arith)
-  where
-    contradiction : true ≡ false → _≡_ {A = ℕ} 0 1
-    contradiction q = cc
-said-of (some s) f e w = (s, refl, sym (ap isClosed e ∙ go (s .closed)))
-  where
-    go : (b : Bool) → isClosed (cond b Closed Open) ≡ b
-    go true = refl
-    go false = refl
+-- a good form says something: so many literals, closed or not
+pub said-of : (o : Option Said) (f : Form) (g : Shape) → f ≡ formFrom o → f ≡ Good g → (s : Said) × (o ≡ some s) × (s .closed ≡ g .closed) × (length (s .literals) ≡ g .count)
+said-of none f g e w = let z : _≡_ {A = ℕ} 10 0 = ap formRefusal (sym e ∙ w) in absurd (omega arith)
+said-of (some s) f g e w =
+    let q = sym e ∙ w in
+    let n : 0 + length (s .literals) ≡ g .count = ap formCount q in
+    (s, refl, ap formCloses q, omega (arith, n))
 
-pub wrong-of : (o : Option Said) (f : Form) → f ≡ formFrom o → isWrong f ≡ true → o ≡ none
+pub wrong-of : (o : Option Said) (f : Form) → f ≡ formFrom o → f ≡ Wrong → o ≡ none
 wrong-of none f e w = refl
-wrong-of (some s) f e w = let z : _≡_ {A = ℕ} 0 1 = contradiction (sym (ap isWrong e ∙ go (s .closed)) ∙ w) in absurd (omega arith)
-  where
-    go : (b : Bool) → isWrong (cond b Closed Open) ≡ false
-    go true = refl
-    go false = refl
-
-    contradiction : false ≡ true → _≡_ {A = ℕ} 0 1
-    contradiction q = cc
+wrong-of (some s) f e w = let z : _≡_ {A = ℕ} 0 10 = ap formRefusal (sym e ∙ w) in absurd (omega arith)
 
 -- a line longer than `v`, of good form, is `v`, a space and words
 pub is-spaced : (l : List ℕ) → getD l 0 0 ≡ 118 → (length l ≡ 1 → ⊥) → 0 < length l → (s : Said) → formOf l ≡ some s
@@ -138,50 +127,52 @@ module _ (r : Reading) (line values : List ℕ) (first : getD line 0 0 ≡ 118) 
 -- ---- each way out of the call
 
 module _ (r : Reading) (line values : List ℕ) (first : getD line 0 0 ≡ 118) (ready : r .closed ≡ false) (some-byte : 0 < length line)
-    (f : Form) (ef : f ≡ formFrom (formOf line)) (wrong : Bool) (ew : wrong ≡ isWrong f) where
+    (f : Form) (ef : f ≡ formFrom (formOf line)) where
   abbrev part : List ℕ
   part = take (length line - 2) (drop 2 line)
 
-  pub out-wrong : wrong ≡ true → (record { refusal = 10; reading = r } ≡ lineRead r line values) × (values ≡ valuesAfter r line values)
-  out-wrong w = refused-line r line values first ready 10 (ap (λ (o : Option Said). saidRefusal o values) (wrong-of (formOf line) f ef (sym ew ∙ w))) (λ z. omega (arith, z))
+  pub out-wrong : f ≡ Wrong → (record { refusal = 10; reading = r } ≡ lineRead r line values) × (values ≡ valuesAfter r line values)
+  out-wrong w = refused-line r line values first ready 10 (ap (λ (o : Option Said). saidRefusal o values) (wrong-of (formOf line) f ef w)) (λ z. omega (arith, z))
 
-  module _ (w : wrong ≡ false) (closed : Bool) (ec : closed ≡ isClosed f) where
-    said : (s : Said) × (formOf line ≡ some s) × (s .closed ≡ isClosed f)
-    said = said-of (formOf line) f ef (sym ew ∙ w)
+  module _ (g : Shape) (eg : f ≡ Good g) where
+    said : (s : Said) × (formOf line ≡ some s) × (s .closed ≡ g .closed) × (length (s .literals) ≡ g .count)
+    said = said-of (formOf line) f g ef eg
 
-    abbrev s : Said
-    s = said .0
-
-    closed-is : closed ≡ said .0 .closed
-    closed-is = ec ∙ sym (said .2)
-
-    pub out-alone : length line ≡ 1 → (record { refusal = 0; reading = record { closed = closed } } ≡ lineRead r line values) × (values ≡ valuesAfter r line values)
+    pub out-alone : length line ≡ 1 → (record { refusal = 0; reading = record { closed = g .closed } } ≡ lineRead r line values) × (values ≡ valuesAfter r line values)
     unfolding nothingSaid
     out-alone h =
         let e : nothingSaid ≡ said .0 = same (sym (alone line first h) ∙ said .1) in
         let n : said .0 .literals ≡ [] = ap (λ (x : Said). x .literals) (sym e) in
         let t = taken-line r line values first ready (said .0) (said .1) (rw n) in
-        (ap (λ (b : Bool). record { refusal = 0; reading = record { closed = b } }) closed-is ∙ t .0, ap (λ (ls : List Literal). withValues ls values) (sym n) ∙ t .1)
+        (ap (λ (b : Bool). record { refusal = 0; reading = record { closed = b } }) (sym (said .2)) ∙ t .0, ap (λ (ls : List Literal). withValues ls values) (sym n) ∙ t .1)
       where
         same : {x y : Said} → some x ≡ some y → x ≡ y
         same q = cc
 
-    module _ (long : length line ≡ 1 → ⊥) (bad : ℕ) (eb : bad ≡ literalsRefusal (named (wordsOf (take (length line - 2) (drop 2 line)))) values) where
+    module _ (long : length line ≡ 1 → ⊥) (bad : ℕ) (eb : bad ≡ wordsRefusal (take (g .count) (wordsOf (take (length line - 2) (drop 2 line)))) values) where
       literals-are : said .0 .literals ≡ named (wordsOf (take (length line - 2) (drop 2 line)))
       literals-are = say-named (wordsOf part) (said .0) (is-spaced line first long some-byte (said .0) (said .1))
 
+      count-is : length (named (wordsOf (take (length line - 2) (drop 2 line)))) ≡ g .count
+      count-is = ap length (sym literals-are) ∙ said .3
+
       bad-is : literalsRefusal (said .0 .literals) values ≡ bad
-      bad-is = ap (λ (ls : List Literal). literalsRefusal ls values) literals-are ∙ sym eb
+      bad-is =
+          ap (λ (ls : List Literal). literalsRefusal ls values) literals-are ∙ sym (words-counted (wordsOf part) values)
+          ∙ ap (λ (n : ℕ). wordsRefusal (take n (wordsOf part)) values) count-is ∙ sym eb
 
-      module _ (after : List ℕ) (ea : after ≡ takenBy (named (wordsOf (take (length line - 2) (drop 2 line)))) values) where
+      named-is : named (take (g .count) (wordsOf (take (length line - 2) (drop 2 line)))) ≡ said .0 .literals
+      named-is = ap (λ (n : ℕ). named (take n (wordsOf part))) (sym count-is) ∙ first-named (wordsOf part) .0 ∙ sym literals-are
+
+      module _ (after : List ℕ) (ea : after ≡ takenBy (take (g .count) (wordsOf (take (length line - 2) (drop 2 line)))) values) where
         pub out-refused : (bad ≡ 0 → ⊥) → (record { refusal = bad; reading = r } ≡ lineRead r line values) × (after ≡ valuesAfter r line values)
-        out-refused g =
-            let t = refused-line r line values first ready bad (ap (λ (o : Option Said). saidRefusal o values) (said .1) ∙ bad-is) g in
-            (t .0, ea ∙ sym (taken-none (named (wordsOf part)) values bad eb g) ∙ t .1)
+        out-refused x =
+            let t = refused-line r line values first ready bad (ap (λ (o : Option Said). saidRefusal o values) (said .1) ∙ bad-is) x in
+            (t .0, ea ∙ sym (taken-none (take (g .count) (wordsOf part)) values bad eb x) ∙ t .1)
 
-        pub out-taken : bad ≡ 0 → (record { refusal = 0; reading = record { closed = closed } } ≡ lineRead r line values) × (after ≡ valuesAfter r line values)
+        pub out-taken : bad ≡ 0 → (record { refusal = 0; reading = record { closed = g .closed } } ≡ lineRead r line values) × (after ≡ valuesAfter r line values)
         out-taken z =
             let t = taken-line r line values first ready (said .0) (said .1) (bad-is ∙ z) in (
-              ap (λ (b : Bool). record { refusal = 0; reading = record { closed = b } }) closed-is ∙ t .0,
-              ea ∙ sym (taken-good (named (wordsOf part)) values (sym eb ∙ z)) ∙ ap (λ (ls : List Literal). withValues ls values) (sym literals-are) ∙ t .1,
+              ap (λ (b : Bool). record { refusal = 0; reading = record { closed = b } }) (sym (said .2)) ∙ t .0,
+              ea ∙ sym (taken-good (take (g .count) (wordsOf part)) values (sym eb ∙ z)) ∙ ap (λ (ls : List Literal). withValues ls values) named-is ∙ t .1,
             )

@@ -1,33 +1,38 @@
 -- The words of a line one by one: what stands from place `at` on. Assumes nothing.
 use Prim.Native.Nat.{ℕ, zero, suc, _+_, _-_, _/_, _%_, _^_, _≤_, _<_, min}
 use mathlib.Core.Path.{_≡_, refl, ap, sym, _∙_, subst}
-use mathlib.Core.Bool.{Bool, true, false, cond, _||_}
+use mathlib.Core.Bool.{Bool, true, false, cond, _&&_, _||_}
 use mathlib.Core.List.{List, [], _∷_, _++_}
 use mathlib.Core.Option.{Option, none, some}
 use native.Mathlib.Numerals.{add-one}
 use native.Mathlib.Decide.{decLt, ℕ-discrete}
 use native.Mathlib.Omega.{arith}
-use borrow.Author.Tests.{eq-eqb, ne-eqb, ltb-true, ltb-false}
+use borrow.Author.Tests.{eq-eqb, ne-eqb, eqb-true, ltb-true, ltb-false}
 use denote.Enum.Declared.{tagOf}
 use types.Run.{OneOf, miss}
 use Rattle.model.proofs.Word.{the-type}
 use Rattle.model.proofs.Solver.{word-named}
 use lib.Bits.{bitOr}
-use lib.Dec.{ltb, eqb}
+use lib.Dec.{leb, ltb, eqb}
 use lib.ListN.{length, take, drop, getD, set, replicate, length-take, length-drop, length-set, length-replicate, getD-replicate}
 use lib.Seq.{take-all, take-nil, drop-drop, getD-set-same, getD-set-other}
 use Rattle.model.specs.declared.Literal.{Literal}
+use Rattle.model.specs.declared.Literal.the-variants.{Pos, Neg}
 use Rattle.model.specs.declared.Word.{Word}
 use Rattle.model.specs.declared.Word.the-variants.{Names, Closing, Malformed}
 use Rattle.model.specs.Lists.{stop}
 use Rattle.model.specs.Words.{has}
-use Rattle.model.specs.Sheet.{onFirst}
-use Rattle.model.specs.Assignment.{wordsOf, wordValue, Said, nothingSaid, withLiteral, sayWords, isSaid, variable, valueFor, withValue, literalsRefusal, withValues}
+use Rattle.model.specs.Sheet.{onFirst, numberOf, ifNone, orZero}
+use Rattle.model.specs.Assignment.{wordsOf, variableIn, asLiteral, wordValue, wordRefusal, wordVariable, wordSays, hasMinus, variableSaid, signed, isZero, Said, nothingSaid, withLiteral, sayWord, sayWords, isSaid, variable, valueFor, wordCloses, withValue, literalsRefusal, withValues, saidBy}
 use Rattle.model.proofs.Lists.{or-false, any-append}
 use Rattle.model.proofs.Loops.{drop-next}
 use Rattle.model.proofs.Words.{has-zero, has-or, has-first, has-next}
-use Rattle.assignment.specs.declared.Form.the-variants.{Wrong, Open, Closed}
-use Rattle.assignment.specs.Line.{wordLength, formFrom, ifNames, named, names?, Noted, withFlag, notedWith}
+use Rattle.assignment.specs.declared.Form.{Form}
+use Rattle.assignment.specs.declared.Form.the-variants.{Wrong, Good}
+use Rattle.assignment.specs.declared.Place.{Place}
+use Rattle.assignment.specs.declared.Place.the-variants.{Free, Above, Taken}
+use Rattle.assignment.proofs.Place.{the-type as place-type}
+use Rattle.assignment.specs.Line.{wordLength, formAfter, formFrom, formRefusal, formCount, formCloses, unsaid, ifNames, named, wordThen, wordsRefusal, placeRefusal, names?, Noted, withFlag, notedWith}
 
 module _ (l : List ℕ) (i : ℕ) (h : i < length l) where
   pub word-more : (getD l i 0 ≡ 32 → ⊥) → wordLength (drop i l) ≡ suc (wordLength (drop (i + 1) l))
@@ -105,6 +110,20 @@ module _ (s : List ℕ) (at k : ℕ) (place : at ≤ length s) (e : k ≡ wordLe
       go (yes h) = (wordsOf (drop (at + k + 1) s), is-more h)
       go (no f) = ([], is-last (omega (arith, k-le)))
 
+  -- the same of the first m words of s, of which `count` were gone through
+  module _ (m count : ℕ) (more : count < m) where
+    first-of : (ws : List (List ℕ)) → take (m - count) (word ∷ ws) ≡ word ∷ take (m - (count + 1)) ws
+    first-of ws = let n : m - count ≡ suc (m - (count + 1)) = omega arith in ap (λ (i : ℕ). take i (word ∷ ws)) n
+
+    pub first-last : at + k ≡ length s → take (m - count) (wordsOf (drop at s)) ≡ word ∷ []
+    first-last h = ap (take (m - count)) (is-last h) ∙ first-of [] ∙ ap (λ (ws : List (List ℕ)). word ∷ ws) (take-nil (m - (count + 1)))
+
+    pub first-more : at + k < length s → take (m - count) (wordsOf (drop at s)) ≡ word ∷ take (m - (count + 1)) (wordsOf (drop (at + k + 1) s))
+    first-more h = ap (take (m - count)) (is-more h) ∙ first-of (wordsOf (drop (at + k + 1) s))
+
+    pub first-some : (ws : List (List ℕ)) × (take (m - count) (wordsOf (drop at s)) ≡ word ∷ ws)
+    first-some = let w = is-some in (take (m - (count + 1)) (w .0), ap (take (m - count)) (w .1) ∙ first-of (w .0))
+
 -- there is always a word
 pub words-some : (l : List ℕ) → (v : List ℕ) × (vs : List (List ℕ)) × (wordsOf l ≡ v ∷ vs)
 words-some [] = ([], [], refl)
@@ -115,28 +134,79 @@ words-some (b ∷ bs) = go (eqb b 32) (words-some bs)
     go true r = ([], wordsOf bs, refl)
     go false r = (b ∷ r .0, r .1, ap (onFirst b) (r .2))
 
--- ---- the form of words
+-- ---- the number and the values of a word
 
-form-after : (l : Literal) (o : Option Said) → formFrom (withLiteral l o) ≡ formFrom o
-form-after l none = refl
-form-after l (some s) = refl
+same-test : (a b c d : ℕ) → (a ≡ b → c ≡ d) → (c ≡ d → a ≡ b) → eqb a b ≡ eqb c d
+same-test a b c d to from = go (ℕ-discrete a b)
+  where
+    go : Dec (a ≡ b) → eqb a b ≡ eqb c d
+    go (yes p) = eq-eqb a b p ∙ sym (eq-eqb c d (to p))
+    go (no f) = ne-eqb a b f ∙ sym (ne-eqb c d (λ q. f (from q)))
 
-module _ (w : List ℕ) (ws : List (List ℕ)) where
-  pub form-malformed : wordValue w ≡ Malformed → formFrom (sayWords (w ∷ ws)) ≡ Wrong
-  form-malformed e = rw e
+-- by its sign, whether it is `0`, and the variable that its digits name with the sign and without it
+says : (m z : Bool) (o p : Option ℕ) → (z ≡ true → m ≡ false) → (z ≡ true → p ≡ none)
+    → ((wordRefusal (cond m (asLiteral Neg o) (cond z Closing (asLiteral Pos p))) ≡ cond z 0 (ifNone 10 (cond m o p))) × (wordCloses (cond m (asLiteral Neg o) (cond z Closing (asLiteral Pos p))) ≡ z))
+    × ((wordVariable (cond m (asLiteral Neg o) (cond z Closing (asLiteral Pos p))) ≡ orZero (cond m o p)) × (wordSays (cond m (asLiteral Neg o) (cond z Closing (asLiteral Pos p))) ≡ signed m (cond m o p)))
+says true true o p f g = let z : _≡_ {A = ℕ} 0 1 = contradiction (f refl) in absurd (omega arith)
+  where
+    contradiction : true ≡ false → _≡_ {A = ℕ} 0 1
+    contradiction q = cc
+says true false none p f g = ((refl, refl), (refl, refl))
+says true false (some v) p f g = ((refl, refl), (refl, refl))
+says false true o none f g = ((refl, refl), (refl, refl))
+says false true o (some v) f g = let e = g refl in let z : _≡_ {A = ℕ} 0 1 = cc in absurd (omega arith)
+says false false o none f g = ((refl, refl), (refl, refl))
+says false false o (some v) f g = ((refl, refl), (refl, refl))
 
-  pub form-names : (l : Literal) → wordValue w ≡ Names l → formFrom (sayWords (w ∷ ws)) ≡ formFrom (sayWords ws)
-  form-names l e = rw e (form-after l (sayWords ws))
+pub zero-names-none : (l : List ℕ) → eqb (getD l 0 0) 48 ≡ true → variableIn l ≡ none
+unfolding variableIn
+zero-names-none l e = rw e (go (leb (length l) 9))
+  where
+    go : (b : Bool) → cond (b && false) (numberOf l) none ≡ none
+    go true = refl
+    go false = refl
 
-  pub form-closing : wordValue w ≡ Closing → ws ≡ [] → formFrom (sayWords (w ∷ ws)) ≡ Closed
-  form-closing e n = rw (e, n)
+word-says-none : (r : Word) → r ≡ Malformed
+    → ((wordRefusal r ≡ cond (isZero []) 0 (ifNone 10 (variableSaid []))) × (wordCloses r ≡ isZero []))
+    × ((wordVariable r ≡ orZero (variableSaid [])) × (wordSays r ≡ signed (hasMinus []) (variableSaid [])))
+unfolding isZero variableSaid hasMinus variableIn numberOf
+word-says-none r e = ((ap wordRefusal e, ap wordCloses e), (ap wordVariable e, ap wordSays e))
 
-  pub form-not-last : wordValue w ≡ Closing → (v : List ℕ) (vs : List (List ℕ)) → ws ≡ v ∷ vs → formFrom (sayWords (w ∷ ws)) ≡ Wrong
-  form-not-last e v vs n = rw (e, n)
+pub word-says : (w : List ℕ) (r : Word) → r ≡ wordValue w
+    → (r ≡ wordValue w)
+    × (((wordRefusal r ≡ cond (isZero w) 0 (ifNone 10 (variableSaid w))) × (wordCloses r ≡ isZero w))
+    × ((wordVariable r ≡ orZero (variableSaid w)) × (wordSays r ≡ signed (hasMinus w) (variableSaid w))))
+unfolding wordValue isZero variableSaid hasMinus
+word-says [] r e = (e, word-says-none r e)
+word-says (b ∷ bs) r e =
+    let x = says (eqb b 45) (eqb b 48 && eqb (length bs) 0) (variableIn bs) (variableIn (b ∷ bs)) (apart (eqb b 48) refl) (none-here (eqb b 48) refl) in
+    let u = unsigned (eqb b 45) in
+    let z = ap (λ (t : Bool). eqb b 48 && t) (same-test (length bs) 0 (suc (length bs)) 1 (λ q. omega arith) (λ q. omega arith)) in (
+      e,
+      (
+        (
+          ap wordRefusal e ∙ x .0 .0 ∙ ap (λ (o : Option ℕ). cond (eqb b 48 && eqb (length bs) 0) 0 (ifNone 10 o)) u
+              ∙ ap (λ (t : Bool). cond t 0 (ifNone 10 (variableIn (cond (eqb b 45) bs (b ∷ bs))))) z,
+          ap wordCloses e ∙ x .0 .1 ∙ z,
+        ),
+        (ap wordVariable e ∙ x .1 .0 ∙ ap orZero u, ap wordSays e ∙ x .1 .1 ∙ ap (signed (eqb b 45)) u),
+      ),
+    )
+  where
+    contradiction : false ≡ true → _≡_ {A = ℕ} 0 1
+    contradiction q = cc
 
-pub form-none : formFrom (sayWords []) ≡ Open
-unfolding nothingSaid
-form-none = refl
+    unsigned : (m : Bool) → cond m (variableIn bs) (variableIn (b ∷ bs)) ≡ variableIn (cond m bs (b ∷ bs))
+    unsigned true = refl
+    unsigned false = refl
+
+    apart : (t : Bool) → eqb b 48 ≡ t → (t && eqb (length bs) 0) ≡ true → eqb b 45 ≡ false
+    apart true p q = ne-eqb b 45 (λ z. omega (arith, eqb-true b 48 p, z))
+    apart false p q = let z = contradiction q in absurd (omega arith)
+
+    none-here : (t : Bool) → eqb b 48 ≡ t → (t && eqb (length bs) 0) ≡ true → variableIn (b ∷ bs) ≡ none
+    none-here true p q = zero-names-none (b ∷ bs) p
+    none-here false p q = let z = contradiction q in absurd (omega arith)
 
 -- ---- the literals of words
 
@@ -164,6 +234,152 @@ not-names (Names l) k = absurd (miss (1 ∷ 2 ∷ []) 0 tt k)
 not-names Closing k = refl
 not-names Malformed k = refl
 
+-- ---- the refusal of words: that of their literals up to the first word that is none, then 10 at this word
+
+abbrev pub allNamed : List (List ℕ) → Bool
+allNamed [] = true
+allNamed (w ∷ ws) = isNames (wordValue w) && allNamed ws
+
+module _ (w : List ℕ) (ws : List (List ℕ)) where
+  pub all-names : (l : Literal) → wordValue w ≡ Names l → allNamed (w ∷ ws) ≡ allNamed ws
+  all-names l e = rw e
+
+  pub all-end : isNames (wordValue w) ≡ false → allNamed (w ∷ ws) ≡ false
+  all-end e = rw e
+
+abbrev ended : Bool → ℕ → ℕ
+ended all x = cond (eqb x 0) (cond all 0 10) x
+
+words-refusal : (ws : List (List ℕ)) (values : List ℕ) → wordsRefusal ws values ≡ ended (allNamed ws) (literalsRefusal (named ws) values)
+words-refusal [] values = refl
+words-refusal (w ∷ ws) values = go (words-refusal ws) (wordValue w)
+  where
+    step : (l : Literal) → ((vs : List ℕ) → wordsRefusal ws vs ≡ ended (allNamed ws) (literalsRefusal (named ws) vs)) → (a b : Bool)
+        → stop a 11 (stop b 12 (wordsRefusal ws (withValue l values))) ≡ ended (allNamed ws) (stop a 11 (stop b 12 (literalsRefusal (named ws) (withValue l values))))
+    step l ih true b = refl
+    step l ih false true = refl
+    step l ih false false = ih (withValue l values)
+
+    go : ((vs : List ℕ) → wordsRefusal ws vs ≡ ended (allNamed ws) (literalsRefusal (named ws) vs)) → (x : Word)
+        → wordThen x values (wordsRefusal ws) ≡ ended (isNames x && allNamed ws) (literalsRefusal (ifNames x (named ws)) values)
+    go ih (Names l) = step l ih (ltb (length values) (variable l)) (isSaid (getD values (variable l - 1) 0))
+    go ih Closing = refl
+    go ih Malformed = refl
+
+module _ (ws : List (List ℕ)) (values : List ℕ) where
+  pub words-bad : (x : ℕ) → literalsRefusal (named ws) values ≡ x → (x ≡ 0 → ⊥) → wordsRefusal ws values ≡ x
+  words-bad x e f = words-refusal ws values ∙ rw (e, ne-eqb x 0 f)
+
+  pub words-end : literalsRefusal (named ws) values ≡ 0 → allNamed ws ≡ false → wordsRefusal ws values ≡ 10
+  words-end e f = words-refusal ws values ∙ rw (e, f)
+
+  pub words-good : literalsRefusal (named ws) values ≡ 0 → allNamed ws ≡ true → wordsRefusal ws values ≡ 0
+  words-good e f = words-refusal ws values ∙ rw (e, f)
+
+  pub words-zero : wordsRefusal ws values ≡ 0 → literalsRefusal (named ws) values ≡ 0
+  words-zero z = go (allNamed ws) (literalsRefusal (named ws) values) (sym (words-refusal ws values) ∙ z)
+    where
+      go : (all : Bool) (x : ℕ) → ended all x ≡ 0 → x ≡ 0
+      go all zero q = refl
+      go all (suc x) q = rw (ne-eqb (suc x) 0 (λ z. omega (arith, z))) at q
+
+-- as many words as literals are the literals
+pub first-named : (ws : List (List ℕ)) → (named (take (length (named ws)) ws) ≡ named ws) × (allNamed (take (length (named ws)) ws) ≡ true)
+first-named [] = (refl, refl)
+first-named (w ∷ ws) = go (wordValue w) refl (first-named ws)
+  where
+    go : (x : Word) → wordValue w ≡ x → (named (take (length (named ws)) ws) ≡ named ws) × (allNamed (take (length (named ws)) ws) ≡ true)
+        → (named (take (length (ifNames x (named ws))) (w ∷ ws)) ≡ ifNames x (named ws)) × (allNamed (take (length (ifNames x (named ws))) (w ∷ ws)) ≡ true)
+    go (Names l) e ih =
+        (named-names w (take (length (named ws)) ws) l e ∙ ap (λ (ls : List Literal). l ∷ ls) (ih .0), all-names w (take (length (named ws)) ws) l e ∙ ih .1)
+    go Closing e ih = (refl, refl)
+    go Malformed e ih = (refl, refl)
+
+pub words-counted : (ws : List (List ℕ)) (values : List ℕ) → wordsRefusal (take (length (named ws)) ws) values ≡ literalsRefusal (named ws) values
+words-counted ws values =
+    let n = first-named ws in
+    words-refusal (take (length (named ws)) ws) values ∙ rw (n .0, n .1) (go (literalsRefusal (named ws) values))
+  where
+    go : (x : ℕ) → cond (eqb x 0) 0 x ≡ x
+    go zero = refl
+    go (suc x) = rw (ne-eqb (suc x) 0 (λ z. omega (arith, z)))
+
+-- ---- places
+
+abbrev pub isFree : Place → Bool
+isFree (Free i) = true
+isFree Above = false
+isFree Taken = false
+
+-- the else of `let Place::Free(i) = .. else`
+pub not-free : (x : Place) → OneOf (1 ∷ 2 ∷ []) (tagOf place-type x) → isFree x ≡ false
+not-free (Free i) k = absurd (miss (1 ∷ 2 ∷ []) 0 tt k)
+not-free Above k = refl
+not-free Taken k = refl
+
+pub place-bad : (p : Place) (i x : ℕ) (a b c : Bool) → p ≡ cond a Above (cond b Taken (cond c Taken (Free i))) → isFree p ≡ false
+    → (stop a 11 (stop b 12 (stop c 12 x)) ≡ placeRefusal p) × (placeRefusal p ≡ 0 → ⊥)
+place-bad p i x true b c e f = let q = ap placeRefusal e in (sym q, λ z. omega (arith, q, z))
+place-bad p i x false true c e f = let q = ap placeRefusal e in (sym q, λ z. omega (arith, q, z))
+place-bad p i x false false true e f = let q = ap placeRefusal e in (sym q, λ z. omega (arith, q, z))
+place-bad p i x false false false e f = let z : _≡_ {A = ℕ} 0 1 = contradiction (sym (ap isFree e) ∙ f) in absurd (omega arith)
+  where
+    contradiction : true ≡ false → _≡_ {A = ℕ} 0 1
+    contradiction q = cc
+
+pub place-free : (i j : ℕ) (a b c : Bool) → Free i ≡ cond a Above (cond b Taken (cond c Taken (Free j))) → (a ≡ false) × (b ≡ false) × (c ≡ false) × (i ≡ j)
+place-free i j true b c e = let q : _≡_ {A = ℕ} 0 11 = ap placeRefusal e in absurd (omega arith)
+place-free i j false true c e = let q : _≡_ {A = ℕ} 0 12 = ap placeRefusal e in absurd (omega arith)
+place-free i j false false true e = let q : _≡_ {A = ℕ} 0 12 = ap placeRefusal e in absurd (omega arith)
+place-free i j false false false e = let q : i ≡ j = cc in (refl, refl, refl, q)
+
+-- ---- the form of words, after c literals
+
+form-after : (c : ℕ) (l : Literal) (o : Option Said) → formAfter c (withLiteral l o) ≡ formAfter (c + 1) o
+form-after c l none = refl
+form-after c l (some s) = let n : c + suc (length (s .literals)) ≡ c + 1 + length (s .literals) = omega arith in ap (λ (n : ℕ). Good (record { count = n; closed = s .closed })) n
+
+module _ (c : ℕ) (w : List ℕ) (ws : List (List ℕ)) where
+  pub form-names : (l : Literal) → wordValue w ≡ Names l → formAfter c (sayWords (w ∷ ws)) ≡ formAfter (c + 1) (sayWords ws)
+  form-names l e = rw e (form-after c l (sayWords ws))
+
+  -- no literal, and no closing 0 either
+  pub form-bad : isNames (wordValue w) ≡ false → wordCloses (wordValue w) ≡ false → formAfter c (sayWords (w ∷ ws)) ≡ Wrong
+  form-bad e f = go (wordValue w) e f
+    where
+      go : (x : Word) → isNames x ≡ false → wordCloses x ≡ false → formAfter c (sayWord x ws (sayWords ws)) ≡ Wrong
+      go (Names l) e f = let z : _≡_ {A = ℕ} 0 1 = cc in absurd (omega arith)
+      go Closing e f = let z : _≡_ {A = ℕ} 0 1 = cc in absurd (omega arith)
+      go Malformed e f = refl
+
+  -- no literal, and words after it
+  pub form-not-last : isNames (wordValue w) ≡ false → (v : List ℕ) (vs : List (List ℕ)) → ws ≡ v ∷ vs → formAfter c (sayWords (w ∷ ws)) ≡ Wrong
+  form-not-last e v vs n = rw n (go (wordValue w) e)
+    where
+      go : (x : Word) → isNames x ≡ false → formAfter c (sayWord x (v ∷ vs) (sayWords (v ∷ vs))) ≡ Wrong
+      go (Names l) e = let z : _≡_ {A = ℕ} 0 1 = cc in absurd (omega arith)
+      go Closing e = refl
+      go Malformed e = refl
+
+pub form-closing : (c : ℕ) (w : List ℕ) → wordCloses (wordValue w) ≡ true → formAfter c (sayWords (w ∷ [])) ≡ Good (record { count = c; closed = true })
+form-closing c w e = go (wordValue w) e
+  where
+    go : (x : Word) → wordCloses x ≡ true → formAfter c (sayWord x [] (sayWords [])) ≡ Good (record { count = c; closed = true })
+    go (Names l) e = let z : _≡_ {A = ℕ} 0 1 = cc in absurd (omega arith)
+    go Closing e = let n : c + 0 ≡ c = omega arith in ap (λ (n : ℕ). Good (record { count = n; closed = true })) n
+    go Malformed e = let z : _≡_ {A = ℕ} 0 1 = cc in absurd (omega arith)
+
+pub form-none : (c : ℕ) → formAfter c (sayWords []) ≡ Good (record { count = c; closed = false })
+unfolding nothingSaid
+form-none c = let n : c + 0 ≡ c = omega arith in ap (λ (n : ℕ). Good (record { count = n; closed = false })) n
+
+-- the number and the values of a form
+pub form-says : (o : Option Said) (r : Form) → r ≡ formFrom o
+    → (r ≡ formFrom o) × ((formRefusal r ≡ unsaid 10 o) × (formCount r ≡ length (saidBy o .literals)) × (formCloses r ≡ saidBy o .closed))
+unfolding nothingSaid
+form-says none r e = (e, (ap formRefusal e, ap formCount e, ap formCloses e))
+form-says (some s) r e = (e, (ap formRefusal e, ap formCount e ∙ omega arith, ap formCloses e))
+
 -- ---- the first of literals that bring no refusal
 
 pub literal-good : (l : Literal) (ls : List Literal) (values : List ℕ) → literalsRefusal (l ∷ ls) values ≡ 0
@@ -176,40 +392,80 @@ literal-good l ls values e = go (ltb (length values) (variable l)) refl (isSaid 
     go false p true e = absurd (omega arith)
     go false p false e = (ltb-false (length values) (variable l) p, e)
 
--- one literal written: v and x are its variable and its value
-module _ (s : List ℕ) (start values : List ℕ) (at k : ℕ) (place : at ≤ length s) (e : k ≡ wordLength (take (length s - at) (drop at s)))
-    (inv : withValues (named (wordsOf s)) start ≡ withValues (named (wordsOf (drop at s))) values)
-    (good : literalsRefusal (named (wordsOf (drop at s))) values ≡ 0)
-    (l : Literal) (is : wordValue (take k (take (length s - at) (drop at s))) ≡ Names l) where
-  pub literal-named : 1 ≤ variable l
-  literal-named = word-named (take k (take (length s - at) (drop at s))) l is
+-- ---- the loop that writes the first m words: `count` literals are written, the rest stands from place `at` on and is good
 
-  named-here : (ws : List (List ℕ)) → wordsOf (drop at s) ≡ take k (take (length s - at) (drop at s)) ∷ ws → named (wordsOf (drop at s)) ≡ l ∷ named ws
-  named-here ws q = ap named q ∙ named-names (take k (take (length s - at) (drop at s))) ws l is
+pub record Writing (s start values : List ℕ) (m at count : ℕ) : Type 0 where
+  pub place : at ≤ length s
+  pub few : count ≤ at
+  pub size : length values ≡ length start
+  pub wrote : withValues (named (take m (wordsOf s))) start ≡ withValues (named (take (m - count) (wordsOf (drop at s)))) values
+  pub good : literalsRefusal (named (take (m - count) (wordsOf (drop at s)))) values ≡ 0
 
-  pub literal-fits : variable l ≤ length values
-  literal-fits =
-      let w = is-some s at k place e in
-      literal-good l (named (w .0)) values (subst (λ (ls : List Literal). literalsRefusal ls values ≡ 0) (named-here (w .0) (w .1)) good) .0
+pub write-start : (s start : List ℕ) (m : ℕ) → wordsRefusal (take m (wordsOf s)) start ≡ 0 → Writing s start start m 0 0
+write-start s start m e =
+    let z : m ≡ m - 0 = omega arith in
+    record {
+      place = omega arith;
+      few = omega arith;
+      size = refl;
+      wrote = ap (λ (i : ℕ). withValues (named (take i (wordsOf s))) start) z;
+      good = ap (λ (i : ℕ). literalsRefusal (named (take i (wordsOf s))) start) (sym z) ∙ words-zero (take m (wordsOf s)) start e;
+    }
 
-  module _ (v x : ℕ) (p : v ≡ variable l) (q : x ≡ valueFor l) where
-    stored : set values (v - 1) x ≡ withValue l values
-    unfolding withValue
-    stored = rw (p, q)
+module _ {s start values : List ℕ} {m at count : ℕ} (h : Writing s start values m at count) where
+  pub write-done : m ≤ count → values ≡ withValues (named (take m (wordsOf s))) start
+  write-done d =
+      let z : m - count ≡ 0 = omega arith in
+      sym (h .wrote ∙ ap (λ (i : ℕ). withValues (named (take i (wordsOf (drop at s)))) values) z)
 
-    pub written-last : at + k ≡ length s → set values (v - 1) x ≡ withValues (named (wordsOf s)) start
-    written-last h =
-        stored ∙ sym (inv ∙ ap (λ (ls : List Literal). withValues ls values) (named-here [] (is-last s at k place e h)))
+  module _ (left : count < m) {k : ℕ} (e : k ≡ wordLength (take (length s - at) (drop at s))) where
+    abbrev here : List ℕ
+    here = take k (take (length s - at) (drop at s))
 
-    pub written-more : at + k < length s
-        → (withValues (named (wordsOf s)) start ≡ withValues (named (wordsOf (drop (at + k + 1) s))) (set values (v - 1) x))
-        × (literalsRefusal (named (wordsOf (drop (at + k + 1) s))) (set values (v - 1) x) ≡ 0)
-    written-more h =
-        let n = named-here (wordsOf (drop (at + k + 1) s)) (is-more s at k place e h) in (
-          inv ∙ ap (λ (ls : List Literal). withValues ls values) n ∙ ap (withValues (named (wordsOf (drop (at + k + 1) s)))) (sym stored),
-          subst (λ (vs : List ℕ). literalsRefusal (named (wordsOf (drop (at + k + 1) s))) vs ≡ 0) (sym stored)
-              (literal-good l (named (wordsOf (drop (at + k + 1) s))) values (subst (λ (ls : List Literal). literalsRefusal ls values ≡ 0) n good) .1),
-        )
+    pub write-le : at + k ≤ length s
+    write-le = k-le s at k (h .place) e
+
+    pub write-size : k ≡ length (take k (take (length s - at) (drop at s)))
+    write-size = word-size s at k (h .place) e
+
+    pub write-end : isNames (wordValue (take k (take (length s - at) (drop at s)))) ≡ false → values ≡ withValues (named (take m (wordsOf s))) start
+    write-end f =
+        let w = first-some s at k (h .place) e m count left in
+        sym (h .wrote ∙ ap (λ (ls : List Literal). withValues ls values) (ap named (w .1) ∙ named-end here (w .0) f))
+
+    module _ {l : Literal} (is : wordValue (take k (take (length s - at) (drop at s))) ≡ Names l) {v : ℕ} (p : v ≡ variable l) where
+      pub write-named : 1 ≤ v
+      write-named = rw p (word-named here l is)
+
+      named-here : (ws : List (List ℕ)) → take (m - count) (wordsOf (drop at s)) ≡ here ∷ ws → named (take (m - count) (wordsOf (drop at s))) ≡ l ∷ named ws
+      named-here ws q = ap named q ∙ named-names here ws l is
+
+      pub write-fits : v ≤ length values
+      write-fits =
+          let w = first-some s at k (h .place) e m count left in
+          rw p (literal-good l (named (w .0)) values (subst (λ (ls : List Literal). literalsRefusal ls values ≡ 0) (named-here (w .0) (w .1)) (h .good)) .0)
+
+      module _ {x : ℕ} (q : x ≡ valueFor l) where
+        stored : withValue l values ≡ set values (v - 1) x
+        unfolding withValue
+        stored = rw (p, q)
+
+        pub write-last : at + k ≡ length s → set values (v - 1) x ≡ withValues (named (take m (wordsOf s))) start
+        write-last r =
+            sym (h .wrote ∙ ap (λ (ls : List Literal). withValues ls values) (named-here [] (first-last s at k (h .place) e m count left r)) ∙ stored)
+
+        pub write-more : at + k < length s → Writing s start (set values (v - 1) x) m (at + k + 1) (count + 1)
+        write-more r =
+            let ws = take (m - (count + 1)) (wordsOf (drop (at + k + 1) s)) in
+            let n = named-here ws (first-more s at k (h .place) e m count left r) in
+            record {
+              place = omega arith;
+              few = omega (arith, h .few);
+              size = length-set values (v - 1) x ∙ h .size;
+              wrote = h .wrote ∙ ap (λ (ls : List Literal). withValues ls values) n ∙ ap (withValues (named ws)) stored;
+              good = subst (λ (vs : List ℕ). literalsRefusal (named ws) vs ≡ 0) stored
+                  (literal-good l (named ws) values (subst (λ (ls : List Literal). literalsRefusal ls values ≡ 0) n (h .good)) .1);
+            }
 
 -- ---- looking for a variable among the first literals
 
@@ -242,13 +498,6 @@ module _ (s : List ℕ) (v at k : ℕ) (place : at ≤ length s) (e : k ≡ word
     look-more x p f h = look-first (wordsOf (drop (at + k + 1) s)) (is-more s at k place e h) ∙ rw (ne-eqb (variable l) v (λ q. f (p ∙ q)))
 
 -- ---- flags
-
-same-test : (a b c d : ℕ) → (a ≡ b → c ≡ d) → (c ≡ d → a ≡ b) → eqb a b ≡ eqb c d
-same-test a b c d to from = go (ℕ-discrete a b)
-  where
-    go : Dec (a ≡ b) → eqb a b ≡ eqb c d
-    go (yes p) = eq-eqb a b p ∙ sym (eq-eqb c d (to p))
-    go (no f) = ne-eqb a b f ∙ sym (ne-eqb c d (λ q. f (from q)))
 
 has-power : (e j : ℕ) → has (2 ^ e) j ≡ eqb e j
 has-power zero zero = has-first 1

@@ -1,7 +1,7 @@
 -- What the line reader's helpers answer, in the definitions' terms.
 use mathlib.Core.Path.{_≡_}
-use Prim.Native.Nat.{ℕ, zero, suc, _-_, _/_, _%_, _^_, _<_}
-use mathlib.Core.Bool.{Bool, true, false, cond}
+use Prim.Native.Nat.{ℕ, zero, suc, _+_, _-_, _/_, _%_, _^_, _<_}
+use mathlib.Core.Bool.{Bool, false, cond}
 use mathlib.Core.List.{List, [], _∷_, _++_}
 use mathlib.Core.Option.{Option, none, some}
 use lib.Bits.{bitOr}
@@ -12,35 +12,47 @@ use Rattle.model.specs.declared.Word.{Word}
 use Rattle.model.specs.declared.Word.the-variants.{Names, Closing, Malformed}
 use Rattle.model.specs.Lists.{any, stop}
 use Rattle.model.specs.Words.{has}
-use Rattle.model.specs.Assignment.{wordValue, Said, isSaid, variable, literalsRefusal, withValues}
-use Rattle.model.specs.declared.Digits.{Digits}
-use Rattle.model.specs.declared.Digits.the-variants.{Number, Bad}
+use Rattle.model.specs.Assignment.{wordValue, Said, isSaid, variable, withValue, withValues}
 use Rattle.assignment.specs.declared.Form.{Form}
-use Rattle.assignment.specs.declared.Form.the-variants.{Wrong, Open, Closed}
+use Rattle.assignment.specs.declared.Form.the-variants.{Wrong, Good}
+use Rattle.assignment.specs.declared.Place.{Place}
+use Rattle.assignment.specs.declared.Place.the-variants.{Free, Above, Taken}
 
 -- how many bytes stand before the first space
 abbrev pub wordLength : List ℕ → ℕ
 wordLength [] = 0
 wordLength (b ∷ bs) = cond (eqb b 32) 0 (suc (wordLength bs))
 
-abbrev pub asOption : Digits → Option ℕ
-asOption (Number v) = some v
-asOption Bad = none
+-- ---- the form of a line
 
--- the form of a line: bad, good, good with a closing 0
+-- after `count` literals, and from the start
+abbrev pub formAfter : ℕ → Option Said → Form
+formAfter count none = Wrong
+formAfter count (some s) = Good (record { count = count + length (s .literals); closed = s .closed })
+
 abbrev pub formFrom : Option Said → Form
-formFrom none = Wrong
-formFrom (some s) = cond (s .closed) Closed Open
+formFrom o = formAfter 0 o
 
-abbrev pub isWrong : Form → Bool
-isWrong Wrong = true
-isWrong Open = false
-isWrong Closed = false
+-- "When an answer is an enum, a definition gives this paper's number and values for each of its cases": of a form, refusal 10, how many literals the
+-- line names, and whether a closing 0 ends it
+abbrev pub formRefusal : Form → ℕ
+formRefusal Wrong = 10
+formRefusal (Good s) = 0
 
-abbrev pub isClosed : Form → Bool
-isClosed Wrong = false
-isClosed Open = false
-isClosed Closed = true
+abbrev pub formCount : Form → ℕ
+formCount Wrong = 0
+formCount (Good s) = s .count
+
+abbrev pub formCloses : Form → Bool
+formCloses Wrong = false
+formCloses (Good s) = s .closed
+
+-- a refusal where a line says nothing, its form being bad
+abbrev pub unsaid : ℕ → Option Said → ℕ
+unsaid refusal none = refusal
+unsaid refusal (some s) = 0
+
+-- ---- the words of a line
 
 -- the literals of words, up to the first that is none
 abbrev pub ifNames : Word → List Literal → List Literal
@@ -51,6 +63,18 @@ ifNames Malformed ls = []
 abbrev pub named : List (List ℕ) → List Literal
 named [] = []
 named (w ∷ ws) = ifNames (wordValue w) (named ws)
+
+-- left to right: 10 at a word that is no literal, and at a literal 11, then 12
+abbrev pub wordThen : Word → List ℕ → (List ℕ → ℕ) → ℕ
+wordThen (Names l) values rest =
+    stop (ltb (length values) (variable l)) 11
+    (stop (isSaid (getD values (variable l - 1) 0)) 12 (rest (withValue l values)))
+wordThen Closing values rest = 10
+wordThen Malformed values rest = 10
+
+abbrev pub wordsRefusal : List (List ℕ) → List ℕ → ℕ
+wordsRefusal [] values = 0
+wordsRefusal (w ∷ ws) values = wordThen (wordValue w) values (wordsRefusal ws)
 
 -- some literal names variable v
 abbrev pub names? : ℕ → List Literal → Bool
@@ -63,6 +87,33 @@ judged seen (l ∷ ls) values =
     stop (ltb (length values) (variable l)) 11
     (stop (isSaid (getD values (variable l - 1) 0)) 12
     (stop (names? (variable l) seen) 12 (judged (seen ++ (l ∷ [])) ls values)))
+
+-- ---- the place of a variable: "The lent marks, one byte per variable"
+
+unfoldable pub placeOf : ℕ → List ℕ → Place
+placeOf v values =
+    cond (ltb (length values) v) Above
+    (cond (isSaid (getD values (v - 1) 0)) Taken (Free (v - 1)))
+
+-- where the line has named literals before
+unfoldable pub newPlace : List Literal → ℕ → List ℕ → Place
+newPlace seen v values =
+    cond (ltb (length values) v) Above
+    (cond (isSaid (getD values (v - 1) 0)) Taken
+    (cond (names? v seen) Taken (Free (v - 1))))
+
+-- "a definition gives this paper's number and values for each of its cases": of a place, refusals 11 and 12
+abbrev pub placeRefusal : Place → ℕ
+placeRefusal (Free i) = 0
+placeRefusal Above = 11
+placeRefusal Taken = 12
+
+-- "11 variable above the marks' length. 12 variable said already, earlier in the line included."
+unfoldable pub literalRefusal : ℕ → List Literal → List ℕ → ℕ
+literalRefusal v seen values =
+    stop (ltb (length values) v) 11
+    (stop (isSaid (getD values (v - 1) 0)) 12
+    (stop (names? v seen) 12 0))
 
 -- ---- the flags: bit i % 64 of word i / 64 is set exactly when variable i + 1 was named
 
@@ -88,6 +139,6 @@ abbrev pub putBack : ℕ → List ℕ → List ℕ → List ℕ → List ℕ
 putBack zero places bytes values = values
 putBack (suc i) places bytes values = putBack i places bytes (set values (getD places i 0) (getD bytes i 0))
 
--- the values after literals that are written unless one is refused
-unfoldable pub takenBy : List Literal → List ℕ → List ℕ
-takenBy ls values = cond (eqb (literalsRefusal ls values) 0) (withValues ls values) values
+-- the values after words whose literals are written unless one is refused
+unfoldable pub takenBy : List (List ℕ) → List ℕ → List ℕ
+takenBy ws values = cond (eqb (wordsRefusal ws values) 0) (withValues (named ws) values) values

@@ -1,21 +1,35 @@
 // Solver lines: the form of the whole line first, then its literals one by one. A refused line changes no value.
 ghost use mathlib.Core.Path.{_≡_};
-ghost use mathlib.Core.Bool.{false};
+ghost use mathlib.Core.Bool.{false, cond};
+ghost use mathlib.Core.List.{[]};
 ghost use Prim.Native.Nat.{_≤_, _<_, _+_};
 ghost use lib.ListN.{length, getD, take};
-ghost use Rattle.model.specs.Assignment.{wordsOf, variableIn, wordValue, sayWords, formOf, isSaid, variable, valueFor, literalsRefusal, withValues, lineRead, valuesAfter};
-ghost use Rattle.assignment.specs.Line.{wordLength, asOption, formFrom, named, names?, isWrong, isClosed, Noted, notedWith, PlacesBelow, putBack, takenBy};
+ghost use Rattle.model.specs.Sheet.{digitsValue, ifNone, orZero};
+ghost use Rattle.model.specs.Assignment.{wordsOf, variableIn, wordValue, sayWords, formOf, isSaid, variable, valueFor, variableRefusal, wordRefusal, wordVariable, wordSays, wordCloses, hasMinus, variableSaid, signed, isZero, withValues, saidBy, lineRead, valuesAfter};
+ghost use Rattle.assignment.specs.Line.{wordLength, formFrom, formRefusal, formCount, formCloses, unsaid, named, names?, Noted, notedWith, placeOf, newPlace, placeRefusal, literalRefusal, PlacesBelow, putBack, wordsRefusal, takenBy};
 use model::Digits;
 use model::LineRead;
 use model::Literal;
 use model::Reading;
 use model::Word;
 
-// The form of a `v` line: wrong, good, or good with a closing 0.
+// A good form: how many literals the line names, and whether a closing 0 ends it.
+struct Shape {
+    count: usize,
+    closed: bool,
+}
+
+// The form of a `v` line.
 enum Form {
     Wrong,
-    Open,
-    Closed,
+    Good(Shape),
+}
+
+// The place of a variable's value: where it is free, or above the values' length, or holding a value already.
+enum Place {
+    Free(usize),
+    Above,
+    Taken,
 }
 
 // How many bytes stand before the first space.
@@ -34,7 +48,8 @@ fn word_length(s: &[u8]) -> usize
 
 // The variable that digits name: no leading zero, up to 9 of them.
 fn variable_in(d: &[u8]) -> Digits
-    ensures { λ r. ⌜ asOption r ≡ variableIn (now (d .entry)) ⌝ }
+    ensures { λ r. ⌜ digitsValue r ≡ variableIn (now (d .entry)) ⌝ }
+    ensures { λ r. ⌜ variableRefusal r ≡ ifNone 10 (variableIn (now (d .entry))) ⌝ }
 {
     let n = d.len();
     if n == 0 {
@@ -52,6 +67,8 @@ fn variable_in(d: &[u8]) -> Digits
 // What a word of a `v` line is.
 fn word_value(w: &[u8]) -> Word
     ensures { λ r. ⌜ r ≡ wordValue (now (w .entry)) ⌝ }
+    ensures { λ r. ⌜ (wordRefusal r ≡ cond (isZero (now (w .entry))) 0 (ifNone 10 (variableSaid (now (w .entry))))) × (wordCloses r ≡ isZero (now (w .entry))) ⌝ }
+    ensures { λ r. ⌜ (wordVariable r ≡ orZero (variableSaid (now (w .entry)))) × (wordSays r ≡ signed (hasMinus (now (w .entry))) (variableSaid (now (w .entry)))) ⌝ }
 {
     let n = w.len();
     if n == 0 {
@@ -75,29 +92,46 @@ fn word_value(w: &[u8]) -> Word
     Word::Names(Literal::Pos(v))
 }
 
-// The form of the words of s.
+// Whether a word is the closing 0.
+fn word_closes(w: Word) -> bool
+    ensures { λ r. ⌜ r ≡ wordCloses w ⌝ }
+{
+    match w {
+        Word::Names(_) => false,
+        Word::Closing => true,
+        Word::Malformed => false,
+    }
+}
+
+// The form of the words of s: literals, and at the end a closing 0 or none.
 fn words_form(s: &[u8]) -> Form
     ensures { λ r. ⌜ r ≡ formFrom (sayWords (wordsOf (now (s .entry)))) ⌝ }
+    ensures { λ r. ⌜ (formRefusal r ≡ unsaid 10 (sayWords (wordsOf (now (s .entry))))) × (formCount r ≡ length (saidBy (sayWords (wordsOf (now (s .entry)))) .literals)) × (formCloses r ≡ saidBy (sayWords (wordsOf (now (s .entry)))) .closed) ⌝ }
 {
     let n = s.len();
     let mut at: usize = 0;
+    let mut count: usize = 0;
     while at <= n {
         let rest = &s[at..];
         let k = word_length(rest);
         let w = word_value(&rest[..k]);
-        match w {
-            Word::Malformed => return Form::Wrong,
-            Word::Closing => {
-                if at + k == n {
-                    return Form::Closed;
-                }
-                return Form::Wrong;
+        if at + k == n {
+            if word_closes(w) {
+                return Form::Good(Shape {
+                    count,
+                    closed: true,
+                });
             }
-            Word::Names(_) => {
-                if at + k == n {
-                    return Form::Open;
-                }
-            }
+        }
+        let Word::Names(_) = w else {
+            return Form::Wrong;
+        };
+        count += 1;
+        if at + k == n {
+            return Form::Good(Shape {
+                count,
+                closed: false,
+            });
         }
         at = at + k + 1;
     }
@@ -108,9 +142,13 @@ fn words_form(s: &[u8]) -> Form
 fn line_form(line: &[u8]) -> Form
     requires { ⌜ (0 < length (now line)) × (getD (now line) 0 0 ≡ 118) ⌝ }
     ensures { λ r. ⌜ r ≡ formFrom (formOf (now (line .entry))) ⌝ }
+    ensures { λ r. ⌜ (formRefusal r ≡ unsaid 10 (formOf (now (line .entry)))) × (formCount r ≡ length (saidBy (formOf (now (line .entry))) .literals)) × (formCloses r ≡ saidBy (formOf (now (line .entry))) .closed) ⌝ }
 {
     if line.len() == 1 {
-        return Form::Open;
+        return Form::Good(Shape {
+            count: 0,
+            closed: false,
+        });
     }
     if line[1] != 32 {
         return Form::Wrong;
@@ -146,14 +184,41 @@ fn value_for(l: Literal) -> u8
     }
 }
 
-// Writes the literals of the words of s.
-fn write_literals(s: &[u8], values: &mut [u8])
-    requires { ⌜ literalsRefusal (named (wordsOf (now s))) (now values) ≡ 0 ⌝ }
-    ensures { λ r. ⌜ now (values .exit) ≡ withValues (named (wordsOf (now (s .entry)))) (now (values .entry)) ⌝ }
+// The place of variable v in the values.
+fn place_of(v: u32, values: &[u8]) -> Place
+    requires { ⌜ 1 ≤ v ⌝ }
+    ensures { λ r. ⌜ r ≡ placeOf v (now (values .entry)) ⌝ }
+    ensures { λ r. ⌜ placeRefusal r ≡ literalRefusal v [] (now (values .entry)) ⌝ }
+{
+    if values.len() < v as usize {
+        return Place::Above;
+    }
+    let i = (v - 1) as usize;
+    if is_said(values[i]) {
+        return Place::Taken;
+    }
+    Place::Free(i)
+}
+
+fn place_refusal(p: Place) -> u32
+    ensures { λ r. ⌜ r ≡ placeRefusal p ⌝ }
+{
+    match p {
+        Place::Free(_) => 0,
+        Place::Above => 11,
+        Place::Taken => 12,
+    }
+}
+
+// Writes the literals of the first m words of s. They were judged: each word is a literal, and the else is never reached.
+fn write_literals(s: &[u8], m: usize, values: &mut [u8])
+    requires { ⌜ wordsRefusal (take m (wordsOf (now s))) (now values) ≡ 0 ⌝ }
+    ensures { λ r. ⌜ now (values .exit) ≡ withValues (named (take m (wordsOf (now (s .entry))))) (now (values .entry)) ⌝ }
 {
     let n = s.len();
     let mut at: usize = 0;
-    while at <= n {
+    let mut count: usize = 0;
+    while count < m {
         let rest = &s[at..];
         let k = word_length(rest);
         let Word::Names(l) = word_value(&rest[..k]) else {
@@ -161,6 +226,7 @@ fn write_literals(s: &[u8], values: &mut [u8])
         };
         let i = (variable_of(l) - 1) as usize;
         values[i] = value_for(l);
+        count += 1;
         if at + k == n {
             return;
         }
@@ -224,31 +290,42 @@ fn note(flags: &mut [u64; WORDS], v: u32)
     }
 }
 
-// Refusals 11 and 12 of the literals of the words of s.
-fn literals_refusal(s: &[u8], values: &[u8]) -> u32
-    ensures { λ r. ⌜ r ≡ literalsRefusal (named (wordsOf (now (s .entry)))) (now (values .entry)) ⌝ }
+// The place of variable v in the values, where a line has named `count` literals before it.
+fn new_place(flags: &[u64; WORDS], s: &[u8], count: usize, v: u32, values: &[u8]) -> Place
+    requires { ⌜ Noted (now flags) (take count (named (wordsOf (now s)))) ⌝ }
+    requires { ⌜ 1 ≤ v ⌝ }
+    ensures { λ r. ⌜ r ≡ newPlace (take count (named (wordsOf (now (s .entry))))) v (now (values .entry)) ⌝ }
+    ensures { λ r. ⌜ placeRefusal r ≡ literalRefusal v (take count (named (wordsOf (now (s .entry))))) (now (values .entry)) ⌝ }
+{
+    let p = place_of(v, values);
+    let Place::Free(_) = p else {
+        return p;
+    };
+    if is_seen(flags, s, count, v) {
+        return Place::Taken;
+    }
+    p
+}
+
+// Refusals 10, 11 and 12 of the first m words of s.
+fn words_refusal(s: &[u8], m: usize, values: &[u8]) -> u32
+    ensures { λ r. ⌜ r ≡ wordsRefusal (take m (wordsOf (now (s .entry)))) (now (values .entry)) ⌝ }
 {
     let n = s.len();
     let mut flags = [0u64; WORDS];
     let mut at: usize = 0;
     let mut count: usize = 0;
-    while at <= n {
+    while count < m {
         let rest = &s[at..];
         let k = word_length(rest);
         let Word::Names(l) = word_value(&rest[..k]) else {
-            return 0;
+            return 10;
         };
         let v = variable_of(l);
-        if values.len() < v as usize {
-            return 11;
-        }
-        let i = (v - 1) as usize;
-        if is_said(values[i]) {
-            return 12;
-        }
-        if is_seen(&flags, s, count, v) {
-            return 12;
-        }
+        let p = new_place(&flags, s, count, v, values);
+        let Place::Free(_) = p else {
+            return place_refusal(p);
+        };
         note(&mut flags, v);
         count += 1;
         if at + k == n {
@@ -279,36 +356,32 @@ fn put_back(places: &[u32; KEPT], bytes: &[u8; KEPT], count: usize, values: &mut
     }
 }
 
-// Refusals 11 and 12 of the literals of the words of s, at most SHORT bytes. Where there is none, they are written.
-fn take_short(s: &[u8], values: &mut [u8]) -> u32
+// Refusals 10, 11 and 12 of the first m words of s, at most SHORT bytes. Where there is none, their literals are written.
+fn take_short(s: &[u8], m: usize, values: &mut [u8]) -> u32
     requires { ⌜ length (now s) ≤ 128 ⌝ }
-    ensures { λ r. ⌜ r ≡ literalsRefusal (named (wordsOf (now (s .entry)))) (now (values .entry)) ⌝ }
-    ensures { λ r. ⌜ now (values .exit) ≡ takenBy (named (wordsOf (now (s .entry)))) (now (values .entry)) ⌝ }
+    ensures { λ r. ⌜ r ≡ wordsRefusal (take m (wordsOf (now (s .entry)))) (now (values .entry)) ⌝ }
+    ensures { λ r. ⌜ now (values .exit) ≡ takenBy (take m (wordsOf (now (s .entry)))) (now (values .entry)) ⌝ }
 {
     let n = s.len();
     let mut places = [0u32; KEPT];
     let mut bytes = [0u8; KEPT];
     let mut at: usize = 0;
     let mut count: usize = 0;
-    while at <= n {
+    while count < m {
         let rest = &s[at..];
         let k = word_length(rest);
         let Word::Names(l) = word_value(&rest[..k]) else {
-            return 0;
+            put_back(&places, &bytes, count, values);
+            return 10;
         };
         let v = variable_of(l);
-        if values.len() < v as usize {
+        let p = place_of(v, values);
+        let Place::Free(i) = p else {
             put_back(&places, &bytes, count, values);
-            return 11;
-        }
-        let i = (v - 1) as usize;
-        let b = values[i];
-        if is_said(b) {
-            put_back(&places, &bytes, count, values);
-            return 12;
-        }
+            return place_refusal(p);
+        };
         places[count] = v - 1;
-        bytes[count] = b;
+        bytes[count] = values[i];
         values[i] = value_for(l);
         count += 1;
         if at + k == n {
@@ -320,39 +393,19 @@ fn take_short(s: &[u8], values: &mut [u8]) -> u32
 }
 
 // The same of words of any length.
-fn take_literals(s: &[u8], values: &mut [u8]) -> u32
-    ensures { λ r. ⌜ r ≡ literalsRefusal (named (wordsOf (now (s .entry)))) (now (values .entry)) ⌝ }
-    ensures { λ r. ⌜ now (values .exit) ≡ takenBy (named (wordsOf (now (s .entry)))) (now (values .entry)) ⌝ }
+fn take_literals(s: &[u8], m: usize, values: &mut [u8]) -> u32
+    ensures { λ r. ⌜ r ≡ wordsRefusal (take m (wordsOf (now (s .entry)))) (now (values .entry)) ⌝ }
+    ensures { λ r. ⌜ now (values .exit) ≡ takenBy (take m (wordsOf (now (s .entry)))) (now (values .entry)) ⌝ }
 {
     if s.len() <= SHORT {
-        return take_short(s, values);
+        return take_short(s, m, values);
     }
-    let bad = literals_refusal(s, values);
+    let bad = words_refusal(s, m, values);
     if bad != 0 {
         return bad;
     }
-    write_literals(s, values);
+    write_literals(s, m, values);
     0
-}
-
-fn is_wrong(f: Form) -> bool
-    ensures { λ r. ⌜ r ≡ isWrong f ⌝ }
-{
-    match f {
-        Form::Wrong => true,
-        Form::Open => false,
-        Form::Closed => false,
-    }
-}
-
-fn is_closed(f: Form) -> bool
-    ensures { λ r. ⌜ r ≡ isClosed f ⌝ }
-{
-    match f {
-        Form::Wrong => false,
-        Form::Open => false,
-        Form::Closed => true,
-    }
 }
 
 // A line whose first byte is `v`, with no closing 0 read before it.
@@ -361,21 +414,20 @@ fn read_values(reading: Reading, line: &[u8], values: &mut [u8]) -> LineRead
     ensures { λ r. ⌜ r ≡ lineRead reading (now (line .entry)) (now (values .entry)) ⌝ }
     ensures { λ r. ⌜ now (values .exit) ≡ valuesAfter reading (now (line .entry)) (now (values .entry)) ⌝ }
 {
-    let form = line_form(line);
-    if is_wrong(form) {
+    let Form::Good(shape) = line_form(line) else {
         return LineRead {
             refusal: 10,
             reading,
         };
-    }
-    let closed = is_closed(form);
+    };
+    let closed = shape.closed;
     if line.len() == 1 {
         return LineRead {
             refusal: 0,
             reading: Reading { closed },
         };
     }
-    let refusal = take_literals(&line[2..], values);
+    let refusal = take_literals(&line[2..], shape.count, values);
     if refusal != 0 {
         return LineRead { refusal, reading };
     }

@@ -4,9 +4,11 @@ use mathlib.Core.Bool.{Bool, true, false, cond, not, _&&_, _||_}
 use mathlib.Core.List.{List, [], _∷_, _++_}
 use mathlib.Core.Option.{Option, none, some}
 use lib.Dec.{leb, ltb, eqb}
-use lib.ListN.{length, getD, set}
+use lib.ListN.{length, getD, set, drop}
 use Rattle.model.specs.declared.Literal.{Literal}
 use Rattle.model.specs.declared.Literal.the-variants.{Pos, Neg}
+use Rattle.model.specs.declared.Digits.{Digits}
+use Rattle.model.specs.declared.Digits.the-variants.{Number, Bad}
 use Rattle.model.specs.declared.Word.{Word}
 use Rattle.model.specs.declared.Word.the-variants.{Names, Closing, Malformed}
 use Rattle.model.specs.declared.Reading.{Reading}
@@ -82,6 +84,46 @@ valueFor (Neg v) = 2
 
 unfoldable pub withValue : Literal → List ℕ → List ℕ
 withValue l values = set values (variable l - 1) (valueFor l)
+
+-- "When an answer is an enum, a definition gives this paper's number and values for each of its cases": of a literal's digits and of a word, refusal 10;
+-- of a word, the variable that it names, the value that it says (1 true, 2 false; both 0 where it is no literal), and whether it is the closing 0
+abbrev pub variableRefusal : Digits → ℕ
+variableRefusal (Number v) = 0
+variableRefusal Bad = 10
+
+abbrev pub wordRefusal : Word → ℕ
+wordRefusal (Names l) = 0
+wordRefusal Closing = 0
+wordRefusal Malformed = 10
+
+abbrev pub wordVariable : Word → ℕ
+wordVariable (Names l) = variable l
+wordVariable Closing = 0
+wordVariable Malformed = 0
+
+abbrev pub wordSays : Word → ℕ
+wordSays (Names l) = valueFor l
+wordSays Closing = 0
+wordSays Malformed = 0
+
+abbrev pub wordCloses : Word → Bool
+wordCloses (Names l) = false
+wordCloses Closing = true
+wordCloses Malformed = false
+
+-- the same by the bytes of a word: its sign, its variable and value, and whether it is `0`
+unfoldable pub hasMinus : List ℕ → Bool
+hasMinus w = eqb (getD w 0 0) 45
+
+unfoldable pub variableSaid : List ℕ → Option ℕ
+variableSaid w = variableIn (cond (hasMinus w) (drop 1 w) w)
+
+abbrev pub signed : Bool → Option ℕ → ℕ
+signed minus none = 0
+signed minus (some v) = cond minus 2 1
+
+unfoldable pub isZero : List ℕ → Bool
+isZero w = eqb (getD w 0 0) 48 && eqb (length w) 1
 
 -- "literals go left to right, 11 before 12 at each, and the first offence ends the reading"
 abbrev pub literalsRefusal : List Literal → List ℕ → ℕ

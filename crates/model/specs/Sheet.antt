@@ -9,9 +9,7 @@ use Rattle.model.specs.declared.Group.{Group}
 use Rattle.model.specs.declared.Constraint.{Constraint}
 use Rattle.model.specs.declared.Model.{Model}
 use Rattle.model.specs.declared.Digits.{Digits}
-use Rattle.model.specs.declared.Digits.the-variants.{Number as DigitsNumber, Bad as DigitsBad}
-use Rattle.model.specs.declared.FieldValue.{FieldValue}
-use Rattle.model.specs.declared.FieldValue.the-variants.{Number, Bad}
+use Rattle.model.specs.declared.Digits.the-variants.{Number, Bad}
 use Rattle.model.specs.declared.SheetRead.{SheetRead}
 use Rattle.model.specs.Lists.{every, between, distinct, range, stop}
 use Rattle.model.specs.Words.{wordWhere}
@@ -47,12 +45,12 @@ digitsAfter v [] = some v
 digitsAfter v (d ∷ ds) = cond (between 48 57 d) (digitsAfter (v * 10 + (d - 48)) ds) none
 
 abbrev pub asDigits : Option ℕ → Digits
-asDigits none = DigitsBad
-asDigits (some v) = DigitsNumber v
+asDigits none = Bad
+asDigits (some v) = Number v
 
 -- up to 9 digits, whose number fits a word of 32 bits
 unfoldable pub shortNumber : List ℕ → Digits
-shortNumber ds = cond (leb (length ds) 9) (asDigits (digitsAfter 0 ds)) DigitsBad
+shortNumber ds = cond (leb (length ds) 9) (asDigits (digitsAfter 0 ds)) Bad
 
 -- one digit, or more of which the first is not 0
 unfoldable pub numberOf : List ℕ → Option ℕ
@@ -60,21 +58,35 @@ numberOf ds =
     cond (eqb (length ds) 0) none
     (cond (ltb 1 (length ds) && eqb (getD ds 0 0) 48) none (digitsAfter 0 ds))
 
-abbrev pub asField : Option ℕ → FieldValue
-asField none = Bad
-asField (some v) = Number v
+unfoldable pub fieldValue : List ℕ → Digits
+fieldValue f = cond (eqb (length f) 4) (asDigits (numberOf (afterSpaces f))) Bad
 
-unfoldable pub fieldValue : List ℕ → FieldValue
-fieldValue f = cond (eqb (length f) 4) (asField (numberOf (afterSpaces f))) Bad
+-- "When an answer is an enum, a definition gives this paper's number and values for each of its cases": of digits, the number that they stand for;
+-- of a field, refusal 4 and its number
+abbrev pub digitsValue : Digits → Option ℕ
+digitsValue (Number v) = some v
+digitsValue Bad = none
 
--- the refusal and the number of each case
-abbrev pub fieldRefusal : FieldValue → ℕ
+abbrev pub fieldRefusal : Digits → ℕ
 fieldRefusal (Number v) = 0
 fieldRefusal Bad = 4
 
-abbrev pub fieldNumber : FieldValue → ℕ
+abbrev pub fieldNumber : Digits → ℕ
 fieldNumber (Number v) = v
 fieldNumber Bad = 0
+
+-- a refusal where there is no number, and the number or 0
+abbrev pub ifNone : ℕ → Option ℕ → ℕ
+ifNone refusal none = refusal
+ifNone refusal (some v) = 0
+
+abbrev pub orZero : Option ℕ → ℕ
+orZero none = 0
+orZero (some v) = v
+
+-- the number of a field of four bytes, if it has one
+unfoldable pub numberIn : List ℕ → Option ℕ
+numberIn f = cond (eqb (length f) 4) (numberOf (afterSpaces f)) none
 
 -- the number in field i of a line
 unfoldable pub valueAt : List ℕ → ℕ → ℕ

@@ -2,13 +2,15 @@
 // Everything above is built on this crate: its specs/ hold every definition of document 01.
 ghost use mathlib.Core.Path.{_≡_};
 ghost use Prim.Native.Nat.{_≤_, min};
-ghost use lib.Dec.{eqb};
-ghost use lib.ListN.{take, drop};
+ghost use mathlib.Core.Bool.{cond};
+ghost use mathlib.Core.Option.{none};
+ghost use lib.Dec.{leb, eqb};
+ghost use lib.ListN.{length, take, drop};
 ghost use Rattle.model.specs.Lists.{every, any, distinct, between};
 ghost use Rattle.model.specs.Limits.{limits};
 ghost use Rattle.model.specs.Words.{full};
 ghost use Rattle.model.specs.Clauses.{memberCount};
-ghost use Rattle.model.specs.Sheet.{shortNumber};
+ghost use Rattle.model.specs.Sheet.{digitsAfter, shortNumber, digitsValue};
 ghost use Rattle.model.specs.Model.{zeroModel, groupInRange, codeInRange, constraintInRange, inRange};
 
 // "F" and "-F" of document 01: of a member of a constraint, of a group, or of a variable.
@@ -48,14 +50,8 @@ pub struct Model {
     pub constraints: [Constraint; Model::CONSTRAINTS],
 }
 
-// What digits stand for.
+// What digits stand for: a field of a sheet, or a literal of a solver's line without its sign.
 pub enum Digits {
-    Number(u32),
-    Bad,
-}
-
-// What a field of a sheet holds.
-pub enum FieldValue {
     Number(u32),
     Bad,
 }
@@ -365,6 +361,7 @@ fn constraints_in_range(constraints: [Constraint; Model::CONSTRAINTS], c: usize,
 // The number that digits stand for, up to 9 of them: of a field of a sheet, and of a literal of a solver's line.
 pub fn decimal(d: &[u8]) -> Digits
     ensures { λ r. ⌜ r ≡ shortNumber (now (d .entry)) ⌝ }
+    ensures { λ r. ⌜ digitsValue r ≡ cond (leb (length (now (d .entry))) 9) (digitsAfter 0 (now (d .entry))) none ⌝ }
 {
     let n = d.len();
     if 9 < n {

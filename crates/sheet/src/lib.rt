@@ -2,14 +2,12 @@
 ghost use mathlib.Core.Path.{_≡_};
 ghost use Prim.Native.Nat.{_≤_, _<_, _+_, _^_};
 ghost use mathlib.Core.Bool.{cond};
-ghost use lib.ListN.{length};
 ghost use Rattle.model.specs.Lists.{every, range};
 ghost use Rattle.model.specs.Limits.{limits};
-ghost use Rattle.model.specs.Sheet.{fieldAt, afterSpaces, digitsAfter, asField, fieldValue, valueAt, formRefusal, headRefusal, markAt, groupRefusal, groupFrom, groupCount, firstGroup, countFrom, constraintFrom, constraintRefusal, lineRefusal, refusedSheet, readSheet};
+ghost use Rattle.model.specs.Sheet.{fieldAt, afterSpaces, fieldValue, fieldRefusal, fieldNumber, ifNone, orZero, numberIn, valueAt, formRefusal, headRefusal, markAt, groupRefusal, groupFrom, groupCount, firstGroup, countFrom, constraintFrom, constraintRefusal, lineRefusal, refusedSheet, readSheet};
 ghost use Rattle.sheet.specs.Line.{lineLength, goodMark};
 use model::Constraint;
 use model::Digits;
-use model::FieldValue;
 use model::Group;
 use model::Model;
 use model::SheetRead;
@@ -41,43 +39,33 @@ fn unspaced(f: &[u8]) -> &[u8]
     &f[i..]
 }
 
-// The number that the digits of a field stand for.
-fn decimal(d: &[u8]) -> FieldValue
-    requires { ⌜ length (now d) ≤ 4 ⌝ }
-    ensures { λ r. ⌜ r ≡ asField (digitsAfter 0 (now (d .entry))) ⌝ }
-{
-    let Digits::Number(v) = model::decimal(d) else {
-        return FieldValue::Bad;
-    };
-    FieldValue::Number(v)
-}
-
 // The number that a field holds.
-fn number(f: &[u8]) -> FieldValue
+fn number(f: &[u8]) -> Digits
     ensures { λ r. ⌜ r ≡ fieldValue (now (f .entry)) ⌝ }
+    ensures { λ r. ⌜ (fieldRefusal r ≡ ifNone 4 (numberIn (now (f .entry)))) × (fieldNumber r ≡ orZero (numberIn (now (f .entry)))) ⌝ }
 {
     if f.len() != 4 {
-        return FieldValue::Bad;
+        return Digits::Bad;
     }
     let d = unspaced(f);
     let n = d.len();
     if n == 0 {
-        return FieldValue::Bad;
+        return Digits::Bad;
     }
     if n == 1 {
-        return decimal(d);
+        return model::decimal(d);
     }
     if d[0] == 48 {
-        return FieldValue::Bad;
+        return Digits::Bad;
     }
-    decimal(d)
+    model::decimal(d)
 }
 
 // The number in field i of a line; 0 where it is none.
 fn value(line: &[u8], i: usize) -> u32
     ensures { λ r. ⌜ r ≡ valueAt (now (line .entry)) i ⌝ }
 {
-    let FieldValue::Number(v) = number(field(line, i)) else {
+    let Digits::Number(v) = number(field(line, i)) else {
         return 0;
     };
     v
@@ -97,7 +85,7 @@ fn form_refusal(line: &[u8]) -> u32
     let k = n / 4;
     let mut i: usize = 0;
     while i < k {
-        let FieldValue::Number(_) = number(field(line, i)) else {
+        let Digits::Number(_) = number(field(line, i)) else {
             return 4;
         };
         i += 1;

@@ -42,19 +42,19 @@ enum-known-l : tie.Need-enum-known-l Inv-loop μ-loop
 enum-known-l c = search needs
 
 returns : tie.Need-returns Inv-loop μ-loop
-returns c = sym (look-end (c .before .before .before .before .before .before .before .before .args .s .now) (c .before .before .before .before .before .before .before .before .args .v) (c .before .before .before .before .before .before .loop .at) (c .before .before .before .word-length .result) ((c .before .before .before .before .before .before .loop .inv) .0) (c .before .before .before .word-length .ensures) (c .before .before .before .before .before .before .before .before .args .count) (c .before .before .before .before .before .before .loop .i) (c .before .before .before .before .before .loop-test .taken) _ ((c .before .before .before .before .before .before .loop .inv) .2) (ap isNames (sym (c .before .word-value .ensures)) ∙ not-names (c .before .word-value .result) (c .match .keys2)))
+returns c = sym (look-end (c .before .before .before .before .before .before .before .before .args .s .now) (c .before .before .before .before .before .before .before .before .args .v) (c .before .before .before .before .before .before .loop .at) (c .before .before .before .word-length .result) ((c .before .before .before .before .before .before .loop .inv) .0) (c .before .before .before .word-length .ensures) (c .before .before .before .before .before .before .before .before .args .count) (c .before .before .before .before .before .before .loop .i) (c .before .before .before .before .before .loop-test .taken) _ ((c .before .before .before .before .before .before .loop .inv) .2) (ap isNames (sym (c .before .word-value .ensures .0)) ∙ not-names (c .before .word-value .result) (c .match .keys2)))
 
 variable-of-requires : tie.Need-variable-of-requires Inv-loop μ-loop
 variable-of-requires c κs = search needs
 
 returns-2 : tie.Need-returns-2 Inv-loop μ-loop
-returns-2 c = sym (look-found (c .before .before .before .before .before .before .before .before .before .before .before .before .args .s .now) (c .before .before .before .before .before .before .before .before .before .before .before .before .args .v) (c .before .before .before .before .before .before .before .before .before .before .loop .at) (c .before .before .before .before .before .before .before .word-length .result) ((c .before .before .before .before .before .before .before .before .before .before .loop .inv) .0) (c .before .before .before .before .before .before .before .word-length .ensures) (c .before .before .before .before .before .before .before .before .before .before .before .before .args .count) (c .before .before .before .before .before .before .before .before .before .before .loop .i) (c .before .before .before .before .before .before .before .before .before .loop-test .taken) _ ((c .before .before .before .before .before .before .before .before .before .before .loop .inv) .2) _ (sym (c .before .before .before .before .before .word-value .ensures) ∙ (c .before .before .before .l .given .1)) (c .before .variable-of .result) (c .before .variable-of .ensures) (c .if1 .taken))
+returns-2 c = sym (look-found (c .before .before .before .before .before .before .before .before .before .before .before .before .args .s .now) (c .before .before .before .before .before .before .before .before .before .before .before .before .args .v) (c .before .before .before .before .before .before .before .before .before .before .loop .at) (c .before .before .before .before .before .before .before .word-length .result) ((c .before .before .before .before .before .before .before .before .before .before .loop .inv) .0) (c .before .before .before .before .before .before .before .word-length .ensures) (c .before .before .before .before .before .before .before .before .before .before .before .before .args .count) (c .before .before .before .before .before .before .before .before .before .before .loop .i) (c .before .before .before .before .before .before .before .before .before .loop-test .taken) _ ((c .before .before .before .before .before .before .before .before .before .before .loop .inv) .2) _ (sym (c .before .before .before .before .before .word-value .ensures .0) ∙ (c .before .before .before .l .given .1)) (c .before .variable-of .result) (c .before .variable-of .ensures) (c .if1 .taken))
 
 add-if2 : tie.Need-add-if2 Inv-loop μ-loop
 add-if2 c = omega (arith, k-le (c .before .before .before .before .before .before .before .before .before .before .before .before .args .s .now) (c .before .before .before .before .before .before .before .before .before .before .loop .at) (c .before .before .before .before .before .before .before .word-length .result) ((c .before .before .before .before .before .before .before .before .before .before .loop .inv) .0) (c .before .before .before .before .before .before .before .word-length .ensures))
 
 returns-3 : tie.Need-returns-3 Inv-loop μ-loop
-returns-3 c = sym (look-last (c .before .before .before .before .before .before .before .before .before .before .before .before .before .args .s .now) (c .before .before .before .before .before .before .before .before .before .before .before .before .before .args .v) (c .before .before .before .before .before .before .before .before .before .before .before .loop .at) (c .before .before .before .before .before .before .before .before .word-length .result) ((c .before .before .before .before .before .before .before .before .before .before .before .loop .inv) .0) (c .before .before .before .before .before .before .before .before .word-length .ensures) (c .before .before .before .before .before .before .before .before .before .before .before .before .before .args .count) (c .before .before .before .before .before .before .before .before .before .before .before .loop .i) (c .before .before .before .before .before .before .before .before .before .before .loop-test .taken) _ ((c .before .before .before .before .before .before .before .before .before .before .before .loop .inv) .2) _ (sym (c .before .before .before .before .before .before .word-value .ensures) ∙ (c .before .before .before .before .l .given .1)) (c .before .before .variable-of .result) (c .before .before .variable-of .ensures) (c .before .if1 .left) (c .if2 .taken))
+returns-3 c = sym (look-last (c .before .before .before .before .before .before .before .before .before .before .before .before .before .args .s .now) (c .before .before .before .before .before .before .before .before .before .before .before .before .before .args .v) (c .before .before .before .before .before .before .before .before .before .before .before .loop .at) (c .before .before .before .before .before .before .before .before .word-length .result) ((c .before .before .before .before .before .before .before .before .before .before .before .loop .inv) .0) (c .before .before .before .before .before .before .before .before .word-length .ensures) (c .before .before .before .before .before .before .before .before .before .before .before .before .before .args .count) (c .before .before .before .before .before .before .before .before .before .before .before .loop .i) (c .before .before .before .before .before .before .before .before .before .before .loop-test .taken) _ ((c .before .before .before .before .before .before .before .before .before .before .before .loop .inv) .2) _ (sym (c .before .before .before .before .before .before .word-value .ensures .0) ∙ (c .before .before .before .before .l .given .1)) (c .before .before .variable-of .result) (c .before .before .variable-of .ensures) (c .before .if1 .left) (c .if2 .taken))
 
 add-at : tie.Need-add-at Inv-loop μ-loop
 add-at c = omega (arith, k-le (c .before .before .before .before .before .before .before .before .before .before .before .before .before .args .s .now) (c .before .before .before .before .before .before .before .before .before .before .before .loop .at) (c .before .before .before .before .before .before .before .before .word-length .result) ((c .before .before .before .before .before .before .before .before .before .before .before .loop .inv) .0) (c .before .before .before .before .before .before .before .before .word-length .ensures))
@@ -69,7 +69,7 @@ loop-less : tie.Need-loop-less Inv-loop μ-loop
 loop-less c = search needs
 
 loop-again : tie.Need-loop-again Inv-loop μ-loop
-loop-again c = let h : (c .before .before .before .before .before .before .before .before .before .before .before .loop .at) + (c .before .before .before .before .before .before .before .before .word-length .result) < length (c .before .before .before .before .before .before .before .before .before .before .before .before .before .args .s .now) = omega (arith, k-le (c .before .before .before .before .before .before .before .before .before .before .before .before .before .args .s .now) (c .before .before .before .before .before .before .before .before .before .before .before .loop .at) (c .before .before .before .before .before .before .before .before .word-length .result) ((c .before .before .before .before .before .before .before .before .before .before .before .loop .inv) .0) (c .before .before .before .before .before .before .before .before .word-length .ensures), (c .if2 .left)) in (omega arith, omega arith, look-more (c .before .before .before .before .before .before .before .before .before .before .before .before .before .args .s .now) (c .before .before .before .before .before .before .before .before .before .before .before .before .before .args .v) (c .before .before .before .before .before .before .before .before .before .before .before .loop .at) (c .before .before .before .before .before .before .before .before .word-length .result) ((c .before .before .before .before .before .before .before .before .before .before .before .loop .inv) .0) (c .before .before .before .before .before .before .before .before .word-length .ensures) (c .before .before .before .before .before .before .before .before .before .before .before .before .before .args .count) (c .before .before .before .before .before .before .before .before .before .before .before .loop .i) (c .before .before .before .before .before .before .before .before .before .before .loop-test .taken) _ ((c .before .before .before .before .before .before .before .before .before .before .before .loop .inv) .2) _ (sym (c .before .before .before .before .before .before .word-value .ensures) ∙ (c .before .before .before .before .l .given .1)) (c .before .before .variable-of .result) (c .before .before .variable-of .ensures) (c .before .if1 .left) h)
+loop-again c = let h : (c .before .before .before .before .before .before .before .before .before .before .before .loop .at) + (c .before .before .before .before .before .before .before .before .word-length .result) < length (c .before .before .before .before .before .before .before .before .before .before .before .before .before .args .s .now) = omega (arith, k-le (c .before .before .before .before .before .before .before .before .before .before .before .before .before .args .s .now) (c .before .before .before .before .before .before .before .before .before .before .before .loop .at) (c .before .before .before .before .before .before .before .before .word-length .result) ((c .before .before .before .before .before .before .before .before .before .before .before .loop .inv) .0) (c .before .before .before .before .before .before .before .before .word-length .ensures), (c .if2 .left)) in (omega arith, omega arith, look-more (c .before .before .before .before .before .before .before .before .before .before .before .before .before .args .s .now) (c .before .before .before .before .before .before .before .before .before .before .before .before .before .args .v) (c .before .before .before .before .before .before .before .before .before .before .before .loop .at) (c .before .before .before .before .before .before .before .before .word-length .result) ((c .before .before .before .before .before .before .before .before .before .before .before .loop .inv) .0) (c .before .before .before .before .before .before .before .before .word-length .ensures) (c .before .before .before .before .before .before .before .before .before .before .before .before .before .args .count) (c .before .before .before .before .before .before .before .before .before .before .before .loop .i) (c .before .before .before .before .before .before .before .before .before .before .loop-test .taken) _ ((c .before .before .before .before .before .before .before .before .before .before .before .loop .inv) .2) _ (sym (c .before .before .before .before .before .before .word-value .ensures .0) ∙ (c .before .before .before .before .l .given .1)) (c .before .before .variable-of .result) (c .before .before .variable-of .ensures) (c .before .if1 .left) h)
 
 returns-4 : tie.Need-returns-4 Inv-loop μ-loop
 returns-4 c = let z : (c .before .before .before .args .count) - (c .before .loop .i) ≡ 0 = omega arith in sym ((c .before .loop .inv) .2 ∙ ap (λ n. names? (c .before .before .before .args .v) (take n (named (wordsOf (drop (c .before .loop .at) (c .before .before .before .args .s .now)))))) z)

@@ -7,22 +7,22 @@ use Rattle.assignment.proofs.read_values.Tie as tie
 line-form-requires : tie.Need-line-form-requires
 line-form-requires c κs = search needs
 
-is-wrong-requires : tie.Need-is-wrong-requires
-is-wrong-requires c κs = search needs
+enum-known-shape : tie.Need-enum-known-shape
+enum-known-shape c = search needs
+
+enum-told : tie.Need-enum-told
+enum-told c = search needs
 
 returns : tie.Need-returns
 returns c =
     let start = c .before .before .before .before .before in
-    out-wrong (start .args .reading) (start .args .line .now) (start .args .values .now) (start .pre .1) (start .pre .2) (start .pre .0) (c .before .before .line-form .result) (c .before .before .line-form .ensures) (c .before .is-wrong .result) (c .before .is-wrong .ensures) (c .if1 .taken)
-
-is-closed-requires : tie.Need-is-closed-requires
-is-closed-requires c κs = search needs
+    out-wrong (start .args .reading) (start .args .line .now) (start .args .values .now) (start .pre .1) (start .pre .2) (start .pre .0) (c .before .before .line-form .result) (c .before .before .line-form .ensures .0) (c .enum-told .given .1)
 
 returns-2 : tie.Need-returns-2
 returns-2 c =
     let start = c .before .before .before .before .before .before .before in
-    out-alone (start .args .reading) (start .args .line .now) (start .args .values .now) (start .pre .1) (start .pre .2) (start .pre .0) (c .before .before .before .before .line-form .result) (c .before .before .before .before .line-form .ensures) (c .before .before .before .is-wrong .result) (c .before .before .before .is-wrong .ensures)
-    (c .before .before .if1 .left) (c .before .is-closed .result) (c .before .is-closed .ensures) (c .if2 .taken)
+    out-alone (start .args .reading) (start .args .line .now) (start .args .values .now) (start .pre .1) (start .pre .2) (start .pre .0) (c .before .before .before .before .line-form .result) (c .before .before .before .before .line-form .ensures .0)
+    _ (c .before .before .shape .given .1) (c .if1 .taken)
 
 sub-take-literals : tie.Need-sub-take-literals
 sub-take-literals c = search needs
@@ -43,9 +43,8 @@ returns-3 : tie.Need-returns-3
 returns-3 c =
     let start = c .before .before .before .before .before .before .before .before .before .before .before .before .before in
     let taken = c .before .before .before .take-literals in
-    out-refused (start .args .reading) (start .args .line .now) (start .args .values .now) (start .pre .1) (start .pre .2) (start .pre .0) (c .before .before .before .before .before .before .before .before .before .before .line-form .result) (c .before .before .before .before .before .before .before .before .before .before .line-form .ensures) (c .before .before .before .before .before .before .before .before .before .is-wrong .result) (c .before .before .before .before .before .before .before .before .before .is-wrong .ensures)
-    (c .before .before .before .before .before .before .before .before .if1 .left) (c .before .before .before .before .before .before .before .is-closed .result) (c .before .before .before .before .before .before .before .is-closed .ensures) (c .before .before .before .before .before .before .if2 .left) (taken .result) (taken .ensures .0) _ (taken .ensures .1)
-    (c .if3 .taken)
+    out-refused (start .args .reading) (start .args .line .now) (start .args .values .now) (start .pre .1) (start .pre .2) (start .pre .0) (c .before .before .before .before .before .before .before .before .before .before .line-form .result) (c .before .before .before .before .before .before .before .before .before .before .line-form .ensures .0)
+    _ (c .before .before .before .before .before .before .before .before .shape .given .1) (c .before .before .before .before .before .before .if1 .left) (taken .result) (taken .ensures .0) _ (taken .ensures .1) (c .if2 .taken)
 
 same-length-2 : tie.Need-same-length-2
 same-length-2 c = search needs
@@ -54,18 +53,17 @@ returns-4 : tie.Need-returns-4
 returns-4 c =
     let start = c .before .before .before .before .before .before .before .before .before .before .before .before .before in
     let taken = c .before .before .before .take-literals in
-    out-taken (start .args .reading) (start .args .line .now) (start .args .values .now) (start .pre .1) (start .pre .2) (start .pre .0) (c .before .before .before .before .before .before .before .before .before .before .line-form .result) (c .before .before .before .before .before .before .before .before .before .before .line-form .ensures) (c .before .before .before .before .before .before .before .before .before .is-wrong .result) (c .before .before .before .before .before .before .before .before .before .is-wrong .ensures)
-    (c .before .before .before .before .before .before .before .before .if1 .left) (c .before .before .before .before .before .before .before .is-closed .result) (c .before .before .before .before .before .before .before .is-closed .ensures) (c .before .before .before .before .before .before .if2 .left) (taken .result) (taken .ensures .0) _ (taken .ensures .1)
-    (c .if3 .left)
+    out-taken (start .args .reading) (start .args .line .now) (start .args .values .now) (start .pre .1) (start .pre .2) (start .pre .0) (c .before .before .before .before .before .before .before .before .before .before .line-form .result) (c .before .before .before .before .before .before .before .before .before .before .line-form .ensures .0)
+    _ (c .before .before .before .before .before .before .before .before .shape .given .1) (c .before .before .before .before .before .before .if1 .left) (taken .result) (taken .ensures .0) _ (taken .ensures .1) (c .if2 .left)
 
 pub read-values-spec : {M : Type 1} → statement M
 read-values-spec =
     tie.close
     (tie.spec
     line-form-requires
-    is-wrong-requires
+    enum-known-shape
+    enum-told
     returns
-    is-closed-requires
     returns-2
     sub-take-literals
     part-take-literals-start

@@ -44,7 +44,7 @@ enum-told-2 c = search needs
 
 returns-3 : tie.Need-returns-3 Inv-loop μ-loop
 unfolding formRefusal goodField
-returns-3 c = let e : goodField (c .before .before .before .before .before .before .before .before .before .args .line .now) (c .before .before .before .before .before .loop .i) ≡ false = simp (← (c .before .before .before .field .ensures), ← (c .before .before .number .ensures), (c .enum-told2 .given .1)) in
+returns-3 c = let e : goodField (c .before .before .before .before .before .before .before .before .before .args .line .now) (c .before .before .before .before .before .loop .i) ≡ false = simp (← (c .before .before .before .field .ensures), ← (c .before .before .number .ensures .0), (c .enum-told2 .given .1)) in
     rw (ne-eqb _ _ (c .before .before .before .before .before .before .before .if1 .left), eq-eqb _ _ (c .before .before .before .before .before .before .if2 .left), range-stops (goodField (c .before .before .before .before .before .before .before .before .before .args .line .now)) _ (length (c .before .before .before .before .before .before .before .before .before .args .line .now) / 4) (c .before .before .before .before .before .loop .i) (c .before .before .before .before .before .loop .inv) (omega arith) e)
 
 add-i : tie.Need-add-i Inv-loop μ-loop
@@ -55,7 +55,7 @@ loop-less c = search needs
 
 loop-again : tie.Need-loop-again Inv-loop μ-loop
 unfolding goodField
-loop-again c = let e : goodField (c .before .before .before .before .before .before .before .before .before .args .line .now) (c .before .before .before .before .before .loop .i) ≡ true = simp (← (c .before .before .before .field .ensures), ← (c .before .before .number .ensures), (c .enum-told .given .1)) in
+loop-again c = let e : goodField (c .before .before .before .before .before .before .before .before .before .args .line .now) (c .before .before .before .before .before .loop .i) ≡ true = simp (← (c .before .before .before .field .ensures), ← (c .before .before .number .ensures .0), (c .enum-told .given .1)) in
     range-goes (goodField (c .before .before .before .before .before .before .before .before .before .args .line .now)) _ (length (c .before .before .before .before .before .before .before .before .before .args .line .now) / 4) (c .before .before .before .before .before .loop .i) (c .before .before .before .before .before .loop .inv) (omega arith) e
 
 returns-4 : tie.Need-returns-4 Inv-loop μ-loop

@@ -18,11 +18,11 @@ enum-told c = search needs
 
 returns : tie.Need-returns
 unfolding valueAt
-returns c = simp (← (c .before .before .before .field .ensures), ← (c .before .before .number .ensures), (c .enum-told .given .1))
+returns c = simp (← (c .before .before .before .field .ensures), ← (c .before .before .number .ensures .0), (c .enum-told .given .1))
 
 returns-2 : tie.Need-returns-2
 unfolding valueAt
-returns-2 c = simp (← (c .before .before .before .before .field .ensures), ← (c .before .before .before .number .ensures), (c .before .v .given .1))
+returns-2 c = simp (← (c .before .before .before .before .field .ensures), ← (c .before .before .before .number .ensures .0), (c .before .v .given .1))
 
 pub value-spec : {M : Type 1} → statement M
 value-spec =
