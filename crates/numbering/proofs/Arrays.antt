@@ -1,7 +1,7 @@
 -- An array that is filled from the front, and sums over the first of a list. Assumes nothing.
 use mathlib.Core.Path.{_≡_, refl, sym, ap, ap₂, _∙_}
 use mathlib.Core.Bool.{Bool, cond}
-use mathlib.Core.List.{List, [], _∷_, _++_, map}
+use mathlib.Core.List.{List, [], _∷_, _++_, map, map-append}
 use Prim.Native.Nat.{ℕ, zero, suc, _+_, _-_, _≤_, _<_}
 use native.Mathlib.Numerals.{add-one}
 use native.Mathlib.Omega.{arith}
@@ -29,10 +29,6 @@ module _ {B : Type 0} where
       ∙ ap {B = List B} (λ l. y ∷ l) (ap (λ (n : ℕ). take n (set r i x)) (sym (add-one i)) ∙ take-set-next r i x (omega arith))
 
 module _ {A B : Type 0} where
-  map-append : (f : A → B) (xs ys : List A) → map f (xs ++ ys) ≡ map f xs ++ map f ys
-  map-append f [] ys = refl
-  map-append f (x ∷ xs) ys = ap {B = List B} (λ l. f x ∷ l) (map-append f xs ys)
-
   pub fill-next : (f : A → B) (xs : List A) (r : List B) (i : ℕ) (d : A) (x : B) → i < length xs → i < length r
       → take i r ≡ map f (take i xs) → x ≡ f (getD xs i d) → take (i + 1) (set r i x) ≡ map f (take (i + 1) xs)
   fill-next f xs r i d x h k inv e =

@@ -1,10 +1,8 @@
 -- `draw_settle` settles the sheet and lays the table. Assumes nothing.
-use mathlib.Core.Path.{ap, _∙_, _≡_}
-use Prim.Native.Nat.{_≤_}
+use mathlib.Core.Path.{ap, _∙_}
 use lib.ListN.{length}
 use Rattle.model.specs.declared.Propagated.{Propagated}
-use Rattle.model.specs.Limits.{limits}
-use Rattle.exports.specs.Draw.{fitted, settleNumber, tableAfter, settledSheet, drawSettle, drawTable}
+use Rattle.exports.specs.Draw.{fitted, settleNumber, tableAfter, drawSettle, drawTable}
 use Rattle.exports.proofs.Cases.{few-settled}
 use borrow.Author.Needs.{needs}
 use Rattle.exports.proofs.draw_settle.Statement.{statement}

@@ -1,10 +1,7 @@
 -- `run_number`: a refusal, or the next block and the length. Assumes nothing.
-use mathlib.Core.Path.{_≡_, sym, _∙_}
-use mathlib.Core.Bool.{cond}
-use Prim.Native.Nat.{ℕ, _+_, _*_}
-use native.Mathlib.Omega.{arith}
+use mathlib.Core.Path.{_≡_}
+use Prim.Native.Nat.{_+_, _*_}
 use borrow.Author.Tests.{ne-eqb}
-use lib.Dec.{eqb}
 use Rattle.cnf.specs.declared.Run.{Run}
 use Rattle.exports.specs.Draw.{runNumber}
 use borrow.Author.Needs.{needs}
