@@ -11,6 +11,7 @@ extern "C" {
     fn draw_settle_model(words: *const u64, words_len: usize, table: *mut u64, table_len: usize) -> u64;
     fn draw_block_model(words: *const u64, words_len: usize, block: u32, buffer: *mut u8, buffer_len: usize) -> u64;
     fn draw_close_model(words: *const u64, words_len: usize, closed: u32, marks: *const u8, marks_len: usize, groups: *mut u64, groups_len: usize) -> u32;
+    fn draw_write_model(words: *const u64, words_len: usize, buffer: *mut u8, buffer_len: usize) -> u64;
 }
 
 pub struct Proved;
@@ -50,5 +51,9 @@ impl Calls for Proved {
 
     fn close_model(&self, words: &[u64], closed: u32, marks: &[u8], groups: &mut [u64]) -> u32 {
         unsafe { draw_close_model(words.as_ptr(), words.len(), closed, marks.as_ptr(), marks.len(), groups.as_mut_ptr(), groups.len()) }
+    }
+
+    fn write_model(&self, words: &[u64], buffer: &mut [u8]) -> u64 {
+        unsafe { draw_write_model(words.as_ptr(), words.len(), buffer.as_mut_ptr(), buffer.len()) }
     }
 }

@@ -18,8 +18,8 @@ use Rattle.model.specs.Lists.{stop}
 use Rattle.model.specs.Assignment.{wordsOf, wordValue, isSaid, variable, valueFor, withValue, literalsRefusal, withValues}
 use Rattle.model.proofs.Lists.{or-false, All, all-append, or-assoc}
 use Rattle.model.proofs.Solver.{Named, word-named}
-use Rattle.assignment.specs.declared.Place.{Place}
-use Rattle.assignment.specs.declared.Place.the-variants.{Free, Above, Taken}
+use Rattle.assignment.specs.declared.literals.Place.{Place}
+use Rattle.assignment.specs.declared.literals.Place.the-variants.{Free, Above, Taken}
 use Rattle.assignment.specs.Line.{wordLength, ifNames, named, wordsRefusal, names?, judged, newPlace, placeRefusal, Noted, notedWith}
 use Rattle.assignment.proofs.Words.{k-le, word-size, is-more, first-last, first-more, first-some, isNames, named-names, named-end, allNamed, all-names, all-end, words-bad, words-end, words-good, isFree, place-bad, place-free, noted-next}
 

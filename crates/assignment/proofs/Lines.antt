@@ -15,9 +15,9 @@ use Rattle.model.specs.declared.Word.{Word}
 use Rattle.model.specs.declared.Word.the-variants.{Names, Closing, Malformed}
 use Rattle.model.specs.declared.Reading.{Reading}
 use Rattle.model.specs.Assignment.{wordsOf, wordValue, Said, nothingSaid, withLiteral, sayWord, sayWords, formOf, literalsRefusal, withValues, saidRefusal, isPassedOver, callRefusal, isTaken, lineRead, valuesAfter}
-use Rattle.assignment.specs.declared.Form.{Form}
-use Rattle.assignment.specs.declared.Form.the-variants.{Wrong, Good}
-use Rattle.assignment.specs.declared.Shape.{Shape}
+use Rattle.assignment.specs.declared.form.Form.{Form}
+use Rattle.assignment.specs.declared.form.Form.the-variants.{Wrong, Good}
+use Rattle.assignment.specs.declared.form.Shape.{Shape}
 use Rattle.assignment.specs.Line.{formFrom, formRefusal, formCount, formCloses, ifNames, named, wordsRefusal, takenBy}
 use Rattle.assignment.proofs.Words.{words-some, first-named, words-counted}
 use Rattle.assignment.proofs.Taken.{taken-good, taken-none}

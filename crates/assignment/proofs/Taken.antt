@@ -14,8 +14,8 @@ use Rattle.model.specs.declared.Literal.{Literal}
 use Rattle.model.specs.declared.Word.the-variants.{Names}
 use Rattle.model.specs.Assignment.{wordsOf, wordValue, isSaid, variable, valueFor, withValue, literalsRefusal, withValues}
 use Rattle.model.proofs.Solver.{word-named}
-use Rattle.assignment.specs.declared.Place.{Place}
-use Rattle.assignment.specs.declared.Place.the-variants.{Free, Above, Taken}
+use Rattle.assignment.specs.declared.literals.Place.{Place}
+use Rattle.assignment.specs.declared.literals.Place.the-variants.{Free, Above, Taken}
 use Rattle.assignment.specs.Line.{wordLength, named, wordsRefusal, placeOf, placeRefusal, PlacesBelow, putBack, takenBy}
 use Rattle.assignment.proofs.Words.{k-le, word-size, first-last, first-more, first-some, isNames, named-names, named-end, allNamed, all-names, all-end, words-bad, words-end, words-good, isFree, place-bad, place-free}
 

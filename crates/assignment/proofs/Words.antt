@@ -27,11 +27,11 @@ use Rattle.model.specs.Assignment.{wordsOf, variableIn, asLiteral, wordValue, w
 use Rattle.model.proofs.Lists.{or-false, any-append}
 use Rattle.model.proofs.Loops.{drop-next}
 use Rattle.model.proofs.Words.{has-zero, has-or, has-first, has-next}
-use Rattle.assignment.specs.declared.Form.{Form}
-use Rattle.assignment.specs.declared.Form.the-variants.{Wrong, Good}
-use Rattle.assignment.specs.declared.Place.{Place}
-use Rattle.assignment.specs.declared.Place.the-variants.{Free, Above, Taken}
-use Rattle.assignment.proofs.Place.{the-type as place-type}
+use Rattle.assignment.specs.declared.form.Form.{Form}
+use Rattle.assignment.specs.declared.form.Form.the-variants.{Wrong, Good}
+use Rattle.assignment.specs.declared.literals.Place.{Place}
+use Rattle.assignment.specs.declared.literals.Place.the-variants.{Free, Above, Taken}
+use Rattle.assignment.proofs.literals.Place.{the-type as place-type}
 use Rattle.assignment.specs.Line.{wordLength, formAfter, formFrom, formRefusal, formCount, formCloses, unsaid, ifNames, named, wordThen, wordsRefusal, placeRefusal, names?, Noted, withFlag, notedWith}
 
 module _ (l : List ℕ) (i : ℕ) (h : i < length l) where

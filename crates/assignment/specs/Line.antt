@@ -13,10 +13,10 @@ use Rattle.model.specs.declared.Word.the-variants.{Names, Closing, Malformed}
 use Rattle.model.specs.Lists.{any, stop}
 use Rattle.model.specs.Words.{has}
 use Rattle.model.specs.Assignment.{wordValue, Said, isSaid, variable, withValue, withValues}
-use Rattle.assignment.specs.declared.Form.{Form}
-use Rattle.assignment.specs.declared.Form.the-variants.{Wrong, Good}
-use Rattle.assignment.specs.declared.Place.{Place}
-use Rattle.assignment.specs.declared.Place.the-variants.{Free, Above, Taken}
+use Rattle.assignment.specs.declared.form.Form.{Form}
+use Rattle.assignment.specs.declared.form.Form.the-variants.{Wrong, Good}
+use Rattle.assignment.specs.declared.literals.Place.{Place}
+use Rattle.assignment.specs.declared.literals.Place.the-variants.{Free, Above, Taken}
 
 -- how many bytes stand before the first space
 abbrev pub wordLength : List ℕ → ℕ

@@ -3,10 +3,13 @@ ghost use mathlib.Core.Path.{_≡_};
 ghost use Prim.Native.Nat.{_≤_};
 ghost use lib.ListN.{length};
 ghost use Rattle.model.specs.Limits.{limits};
+ghost use Rattle.report.specs.Messages.{Counted};
+use libc::STDERR_FILENO;
 use libc::STDIN_FILENO;
 use libc::STDOUT_FILENO;
 use model::Model;
 use model::Written;
+use report::Message;
 
 // What the buffer holds before a block is written.
 const FILL: u8 = 255;
@@ -57,62 +60,69 @@ fn try_block(m: Model, b: u32, room: usize) -> Tried
     }
 }
 
-fn say(text: &[u8]) {
-    io::write_all(STDOUT_FILENO, text);
+// What cannot be written is reported.
+fn write(text: &[u8]) -> bool {
+    if io::write_all(STDOUT_FILENO, text) {
+        return true;
+    }
+    io::write_all(STDERR_FILENO, b"the output could not be written\n");
+    false
+}
+
+fn say(m: Message) -> bool
+    requires { ⌜ Counted m ⌝ }
+{
+    let n = m.length;
+    let bytes = m.bytes;
+    write(&bytes[..n])
 }
 
 fn refuse(refusal: u32) {
-    io::print_decimal(STDOUT_FILENO, refusal as u64);
-    say(b"\n");
+    say(report::number(refusal));
 }
 
-// `; in R bytes: ` and what came of it.
-fn print_tried(room: usize, t: Tried) {
-    say(b"; in ");
-    io::print_decimal(STDOUT_FILENO, room as u64);
-    say(b" bytes: ");
-    if t.refusal == 0 {
-        io::print_decimal(STDOUT_FILENO, t.length as u64);
-    } else {
-        say(b"refused ");
-        io::print_decimal(STDOUT_FILENO, t.refusal as u64);
+fn told(room: usize, t: Tried) -> report::Tried
+    requires { ⌜ (room ≤ limits .block) × (t .length ≤ limits .block) ⌝ }
+{
+    report::Tried {
+        room: room as u32,
+        refusal: t.refusal,
+        length: t.length as u32,
     }
 }
 
-// `block B: `
-fn print_number(b: u32) {
-    say(b"block ");
-    io::print_decimal(STDOUT_FILENO, b as u64);
-    say(b": ");
+fn one_less(n: usize) -> usize
+    ensures { λ r. ⌜ r ≤ n ⌝ }
+{
+    if n == 0 {
+        return 0;
+    }
+    n - 1
 }
 
 // The block's length, and what a buffer of that length and one a byte shorter give. An empty block has no shorter buffer.
-fn print_block(m: Model, b: u32) {
+fn print_block(m: Model, b: u32) -> bool {
     let any = try_block(m, b, Model::BLOCK_BYTES);
     let n = any.length;
     let exact = try_block(m, b, n);
-    print_number(b);
-    io::print_decimal(STDOUT_FILENO, n as u64);
-    say(b" bytes");
-    print_tried(n, exact);
-    let mut kept = any.kept && exact.kept;
-    if 0 < n {
-        let short = try_block(m, b, n - 1);
-        print_tried(n - 1, short);
-        kept = kept && short.kept;
+    let less = one_less(n);
+    let short = try_block(m, b, less);
+    if !say(report::block(b, n as u32, told(n, exact), told(less, short))) {
+        return false;
     }
-    say(b"\n");
-    if !kept {
-        print_number(b);
-        say(b"a byte past the text changed\n");
+    if any.kept && exact.kept && short.kept {
+        return true;
     }
+    say(report::changed(b))
 }
 
 fn print_blocks(m: Model) {
     let last = cnf::block_count(m);
     let mut b: u32 = 0;
     while b <= last {
-        print_block(m, b);
+        if !print_block(m, b) {
+            return;
+        }
         b += 1;
     }
 }

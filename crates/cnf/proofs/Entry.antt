@@ -22,7 +22,7 @@ use Rattle.model.proofs.Lists.{T-false, true-T}
 use Rattle.model.proofs.Refusals.{settled-rest, rest-settled, unsettled-first}
 use Rattle.propagation_laws.proofs.Ranges.{in-range}
 use Rattle.encoding_laws.proofs.Nonempty.{no-empty-clause}
-use Rattle.cnf.specs.Wrote.{Wrote}
+use Rattle.text.specs.Put.{Wrote}
 use Rattle.cnf.specs.Parts.{judgement, blockLength}
 
 -- ---- what is judged first

@@ -1,10 +1,7 @@
-pub mod Writes
 pub mod Numbers
-pub mod Clauses
 pub mod Nodes
 pub mod Trees
 pub mod Groups
-pub mod MemberTerms
 pub mod Constraints
 pub mod Settled
 pub mod Entry

@@ -10,8 +10,9 @@ use Rattle.model.specs.declared.Term.the-variants.{Fails, Open}
 use Rattle.model.specs.declared.Literal.the-variants.{Pos}
 use Rattle.model.specs.Totalizer.{oppositeTerm, output, up, down, putIn}
 use Rattle.encoding_laws.proofs.Node.{output-in, output-out}
-use Rattle.cnf.specs.declared.Node.{Node}
-use Rattle.cnf.specs.Parts.{keptText, outputText, pairText}
+use Rattle.cnf.specs.declared.totalizer.Node.{Node}
+use Rattle.cnf.specs.Parts.{outputText, pairText}
+use Rattle.text.specs.Put.{keptText}
 
 pub same-three : {x y z x′ y′ z′ : Term} → x ≡ x′ → y ≡ y′ → z ≡ z′ → keptText (x ∷ y ∷ z ∷ []) ≡ keptText (x′ ∷ y′ ∷ z′ ∷ [])
 same-three p q r = λ i. keptText (p i ∷ q i ∷ r i ∷ [])

@@ -79,7 +79,7 @@ line-printed c =
 
 -- ---- lines
 
-line-cut : (l rest : List ℕ) → All (λ b. 32 ≤ b) l → linesOf (l ++ (10 ∷ rest)) ≡ l ∷ linesOf rest
+pub line-cut : (l rest : List ℕ) → All (λ b. 32 ≤ b) l → linesOf (l ++ (10 ∷ rest)) ≡ l ∷ linesOf rest
 line-cut [] rest h = refl
 line-cut (b ∷ l) rest h =
     let e : eqb b 10 ≡ false = ne-eqb b 10 (λ z. let k = h .0 in omega arith) in

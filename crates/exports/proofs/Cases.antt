@@ -23,7 +23,7 @@ use Rattle.model.specs.Close.{closed}
 use Rattle.model.proofs.Lists.{true-T}
 use Rattle.propagation_laws.proofs.Ranges.{in-range}
 use Rattle.cnf.specs.Run.{runOf, runBuffer}
-use Rattle.exports.specs.Words.{groupWords}
+use Rattle.words.specs.Words.{groupWords}
 use Rattle.exports.specs.Draw.{numbered, settledSheet, fitted, settleNumber, tableAfter, sheetBlock, writtenNumber, drawBlock, drawBuffer, sheetRun, runNumber, drawBlocks, drawRun, readingOf, noGroups, closedSheet, fittedClosing, groupsAfter}
 
 -- ---- the reader's refusal comes first

@@ -16,11 +16,12 @@ use Rattle.model.specs.Model.{tableOf}
 use Rattle.model.specs.Sheet.{readSheet}
 use Rattle.model.specs.Propagate.{propagated, refusedPropagation}
 use Rattle.model.specs.Text.{writtenBlock, blockBuffer, writtenRefusal, writtenLength}
+use Rattle.model.specs.SheetText.{writtenSheet}
 use Rattle.model.specs.Assignment.{lineRead}
 use Rattle.model.specs.Close.{closed}
 use Rattle.cnf.specs.declared.Run.{Run}
 use Rattle.cnf.specs.Run.{runOf, runBuffer}
-use Rattle.exports.specs.Words.{groupWords, modelFrom}
+use Rattle.words.specs.Words.{groupWords, modelFrom}
 
 -- a refusal and a line, or a refusal and passes, in one number
 abbrev pub numbered : ℕ → ℕ → ℕ
@@ -85,6 +86,10 @@ drawBuffer sheet block buffer =
 -- and of a model
 unfoldable pub modelBlock : List ℕ → ℕ → ℕ → ℕ
 modelBlock words block room = writtenNumber (writtenBlock (modelFrom words) block room)
+
+-- a model's sheet
+unfoldable pub modelSheet : List ℕ → ℕ → ℕ
+modelSheet words room = writtenNumber (writtenSheet (modelFrom words) room)
 
 -- ---- a run of blocks of the settled sheet
 

@@ -1,18 +1,18 @@
 // What a Rust program calls: each entry on numbers and slices, its answer as one number.
 ghost use mathlib.Core.Path.{_≡_};
 ghost use Prim.Native.Nat.{_+_, _*_, _≤_, _<_};
-ghost use mathlib.Core.List.{_++_, map};
+ghost use mathlib.Core.List.{_++_};
 ghost use lib.ListN.{length, take, drop};
 ghost use lib.Seq.{sets};
-ghost use Rattle.model.specs.Lists.{each, range};
+ghost use Rattle.model.specs.Lists.{each};
 ghost use Rattle.model.specs.Limits.{limits};
 ghost use Rattle.model.specs.Assignment.{valuesAfter};
 ghost use Rattle.model.specs.Text.{blockBuffer};
-ghost use Rattle.exports.specs.Words.{groupWords, wordAt, numberAt, groupFrom, membersFrom, constraintFrom, modelFrom};
-ghost use Rattle.exports.specs.Draw.{numbered, drawRead, settledSheet, fitted, settleNumber, tableAfter, drawSettle, drawTable, modelSettle, modelTable, writtenNumber, drawBlock, drawBuffer, modelBlock, runNumber, drawBlocks, drawRun, readingOf, lineNumber, drawLine, closedSheet, fittedClosing, groupsAfter, drawClose, drawGroups, modelClose, modelGroups};
+ghost use Rattle.model.specs.SheetText.{sheetBuffer};
+ghost use Rattle.words.specs.Words.{groupWords, modelFrom};
+ghost use Rattle.exports.specs.Draw.{numbered, drawRead, settledSheet, fitted, settleNumber, tableAfter, drawSettle, drawTable, modelSettle, modelTable, writtenNumber, drawBlock, drawBuffer, modelBlock, modelSheet, runNumber, drawBlocks, drawRun, readingOf, lineNumber, drawLine, closedSheet, fittedClosing, groupsAfter, drawClose, drawGroups, modelClose, modelGroups};
 use cnf::Run;
 use model::Closed;
-use model::Constraint;
 use model::Group;
 use model::LineRead;
 use model::Model;
@@ -34,113 +34,6 @@ pub extern "C" fn draw_read(sheet: &[u8]) -> u64
 {
     let r = sheet::read_sheet(sheet);
     numbered(r.refusal, r.line)
-}
-
-// ---- a model as words
-
-// Word i, or 0 where it is missing.
-fn word_at(words: &[u64], i: usize) -> u64
-    ensures { λ r. ⌜ r ≡ wordAt (now (words .entry)) i ⌝ }
-{
-    if i < words.len() {
-        return words[i];
-    }
-    0
-}
-
-// Its last 32 bits.
-fn number_at(words: &[u64], i: usize) -> u32
-    ensures { λ r. ⌜ r ≡ numberAt (now (words .entry)) i ⌝ }
-{
-    let w = word_at(words, i);
-    (w % 4294967296) as u32
-}
-
-fn group_from(words: &[u64], i: usize) -> Group
-    requires { ⌜ i < limits .groups ⌝ }
-    ensures { λ r. ⌜ r ≡ groupFrom (now (words .entry)) i ⌝ }
-{
-    let at = 3 + 4 * i;
-    Group {
-        fixed: word_at(words, at),
-        possible: word_at(words, at + 1),
-        low: number_at(words, at + 2),
-        high: number_at(words, at + 3),
-    }
-}
-
-fn groups_from(words: &[u64]) -> [Group; Model::GROUPS]
-    ensures { λ r. ⌜ r ≡ map (groupFrom (now (words .entry))) (range 0 (limits .groups)) ⌝ }
-{
-    let none = Group {
-        fixed: 0,
-        possible: 0,
-        low: 0,
-        high: 0,
-    };
-    let mut groups = [none; Model::GROUPS];
-    let mut i: usize = 0;
-    while i < Model::GROUPS {
-        groups[i] = group_from(words, i);
-        i += 1;
-    }
-    groups
-}
-
-// The groups of a constraint whose words stand from `at` on.
-fn members_from(words: &[u64], at: usize) -> [u32; Model::MEMBERS]
-    requires { ⌜ at ≤ 65536 ⌝ }
-    ensures { λ r. ⌜ r ≡ membersFrom (now (words .entry)) at ⌝ }
-{
-    let mut members = [0u32; Model::MEMBERS];
-    let mut i: usize = 0;
-    while i < Model::MEMBERS {
-        members[i] = number_at(words, at + i);
-        i += 1;
-    }
-    members
-}
-
-fn constraint_from(words: &[u64], i: usize) -> Constraint
-    requires { ⌜ i < limits .constraints ⌝ }
-    ensures { λ r. ⌜ r ≡ constraintFrom (now (words .entry)) i ⌝ }
-{
-    let at = 3 + 4 * Model::GROUPS + (2 + Model::MEMBERS) * i;
-    Constraint {
-        code: number_at(words, at),
-        count: number_at(words, at + 1),
-        groups: members_from(words, at + 2),
-    }
-}
-
-fn constraints_from(words: &[u64]) -> [Constraint; Model::CONSTRAINTS]
-    ensures { λ r. ⌜ r ≡ map (constraintFrom (now (words .entry))) (range 0 (limits .constraints)) ⌝ }
-{
-    let none = Constraint {
-        code: 0,
-        count: 0,
-        groups: [0; Model::MEMBERS],
-    };
-    let mut constraints = [none; Model::CONSTRAINTS];
-    let mut i: usize = 0;
-    while i < Model::CONSTRAINTS {
-        constraints[i] = constraint_from(words, i);
-        i += 1;
-    }
-    constraints
-}
-
-// A model out of range, too, so that a caller can have it refused.
-fn model_from(words: &[u64]) -> Model
-    ensures { λ r. ⌜ r ≡ modelFrom (now (words .entry)) ⌝ }
-{
-    Model {
-        n: number_at(words, 0),
-        s: number_at(words, 1),
-        c: number_at(words, 2),
-        groups: groups_from(words),
-        constraints: constraints_from(words),
-    }
 }
 
 // ---- settling
@@ -218,7 +111,7 @@ pub extern "C" fn draw_settle_model(words: &[u64], table: &mut [u64]) -> u64
     ensures { λ r. ⌜ r ≡ modelSettle (now (words .entry)) (length (now (table .entry))) ⌝ }
     ensures { λ r. ⌜ now (table .exit) ≡ modelTable (now (words .entry)) (now (table .entry)) ⌝ }
 {
-    let m = model_from(words);
+    let m = words::model_from(words);
     let p = propagate::propagate(m);
     settle_number(p, table)
 }
@@ -253,8 +146,19 @@ pub extern "C" fn draw_block_model(words: &[u64], block: u32, buffer: &mut [u8])
     ensures { λ r. ⌜ r ≡ modelBlock (now (words .entry)) block (length (now (buffer .entry))) ⌝ }
     ensures { λ r. ⌜ now (buffer .exit) ≡ blockBuffer (modelFrom (now (words .entry))) block (now (buffer .entry)) ⌝ }
 {
-    let m = model_from(words);
+    let m = words::model_from(words);
     let w = cnf::write_block(m, block, buffer);
+    written_number(w)
+}
+
+// A model's sheet: refusal * 4294967296 + length.
+#[no_mangle]
+pub extern "C" fn draw_write_model(words: &[u64], buffer: &mut [u8]) -> u64
+    ensures { λ r. ⌜ r ≡ modelSheet (now (words .entry)) (length (now (buffer .entry))) ⌝ }
+    ensures { λ r. ⌜ now (buffer .exit) ≡ sheetBuffer (modelFrom (now (words .entry))) (now (buffer .entry)) ⌝ }
+{
+    let m = words::model_from(words);
+    let w = sheet_writer::write_sheet(m, buffer);
     written_number(w)
 }
 
@@ -374,7 +278,7 @@ pub extern "C" fn draw_close_model(
     ensures { λ r. ⌜ r ≡ modelClose (now (words .entry)) closed (now (values .entry)) (length (now (groups .entry))) ⌝ }
     ensures { λ r. ⌜ now (groups .exit) ≡ modelGroups (now (words .entry)) closed (now (values .entry)) (now (groups .entry)) ⌝ }
 {
-    let m = model_from(words);
+    let m = words::model_from(words);
     let reading = Reading {
         closed: closed != 0,
     };

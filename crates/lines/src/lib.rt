@@ -1,217 +1,201 @@
-// A solver's output, line by line: each goes to `assignment::read_line`. A line that is refused is reported on standard error, and reading goes on.
-// No contract can say what is read, so these functions say only that they stay within what they were lent.
+// A solver's output cut into lines, in whatever pieces it comes: each line is read as it ends. A call stops after a line that is refused.
 ghost use mathlib.Core.Path.{_≡_};
-ghost use Prim.Native.Nat.{_+_, _≤_};
-ghost use lib.ListN.{length};
-use libc::STDERR_FILENO;
+ghost use lib.ListN.{length, take, set};
+ghost use Rattle.lines.specs.Lines.{freshCut};
+ghost use Rattle.lines.specs.Cut.{cutting, nextNumber, lineStart, tooLong, lineEnd, valuesAtEnd, keepByte, atStart, feeding, finishing};
 use model::Reading;
 
-// The longest line that is read, with its newline. A `v` line that says each of 65,536 variables once has less than 500,000 bytes.
-const LONGEST: usize = 1048576;
-
-// Where the reading of the solver's output stands: whether a closing 0 was read, the next line's number, and whether that line's first
-// part was too long to keep.
-struct State {
-    closed: bool,
-    number: u64,
-    skipping: bool,
+// Where the cutting stands: what the lines so far left of the reading, the number of the line that is being cut, how many of its bytes are kept at the
+// start of the lent space, and whether it has more than those.
+pub struct Cut {
+    pub reading: Reading,
+    number: u32,
+    held: usize,
+    long: bool,
 }
 
-// How many bytes stand before the first newline.
-fn line_length(s: &[u8]) -> usize
-    ensures { λ r. ⌜ r ≤ length (now (s .entry)) ⌝ }
+// What a call answers: the state after the bytes that it used, and the refusal and the number of the line that stopped it, or 0 and 0. Refusal 24 is a
+// line that is longer than the space.
+pub struct Fed {
+    pub cut: Cut,
+    pub used: usize,
+    pub refusal: u32,
+    pub line: u32,
+}
+
+// The end of a line: its refusal, or 0, and the state before the next one.
+struct Ended {
+    refusal: u32,
+    cut: Cut,
+}
+
+// Before line `number`.
+fn line_start(reading: Reading, number: u32) -> Cut
+    ensures { λ r. ⌜ r ≡ lineStart reading number ⌝ }
 {
-    let mut i: usize = 0;
-    while i < s.len() {
-        if s[i] == 10 {
-            return i;
-        }
-        i += 1;
+    Cut {
+        reading,
+        number,
+        held: 0,
+        long: false,
     }
-    i
 }
 
-fn next(number: u64) -> u64 {
-    if number < u64::MAX {
+// Before the first byte.
+pub fn start() -> Cut
+    ensures { λ r. ⌜ r ≡ freshCut ⌝ }
+{
+    line_start(Reading { closed: false }, 1)
+}
+
+// Lines are counted up to the largest number.
+fn next(number: u32) -> u32
+    ensures { λ r. ⌜ r ≡ nextNumber number ⌝ }
+{
+    if number < u32::MAX {
         return number + 1;
     }
     number
 }
 
-// One line, without its newline.
-fn take_line(line: &[u8], values: &mut [u8], t: State) -> State {
-    let number = next(t.number);
-    if t.skipping {
-        return State {
-            closed: t.closed,
-            number,
-            skipping: false,
-        };
-    }
-    let r = assignment::read_line(Reading { closed: t.closed }, line, values);
-    if r.refusal != 0 {
-        report::refused_line(STDERR_FILENO, t.number, r.refusal);
-    }
-    State {
-        closed: r.reading.closed,
-        number,
-        skipping: false,
-    }
-}
-
-// The lines of s that are whole, and where the rest starts.
-struct Taken {
-    state: State,
-    rest: usize,
-}
-
-fn take_lines(s: &[u8], values: &mut [u8], t: State) -> Taken
-    ensures { λ r. ⌜ r .rest ≤ length (now (s .entry)) ⌝ }
+// The refusal of a line that is too long, of which these bytes are kept.
+fn too_long(line: &[u8]) -> u32
+    ensures { λ r. ⌜ r ≡ tooLong (now (line .entry)) ⌝ }
 {
-    let n = s.len();
-    let mut state = t;
-    let mut at: usize = 0;
-    while at < n {
-        let rest = &s[at..];
-        let k = line_length(rest);
-        if at + k == n {
-            return Taken { state, rest: at };
-        }
-        let u = take_line(&rest[..k], values, state);
-        state = u;
-        at = at + k + 1;
+    if line.len() == 0 {
+        return 24;
     }
-    Taken { state, rest: at }
-}
-
-// Reads on after the first `held` bytes of space.
-fn more(fd: i32, space: &mut [u8], held: usize) -> usize
-    requires { ⌜ held ≤ length (now space) ⌝ }
-    ensures { λ r. ⌜ held + r ≤ length (now (space .exit)) ⌝ }
-{
-    if space.len() == held {
+    if line[0] == 99 {
         return 0;
     }
-    let got = libc::read(fd, &mut space[held..]);
-    io::count(got, &space[held..])
+    if line[0] == 115 {
+        return 0;
+    }
+    24
 }
 
-// Moves the bytes from `from` to `end` to the start, and says how many they are.
-fn keep(space: &mut [u8], from: usize, end: usize) -> usize
-    requires { ⌜ (from ≤ end) × (end ≤ length (now space)) ⌝ }
-    ensures { λ r. ⌜ r ≤ length (now (space .exit)) ⌝ }
+// The end of a line of which these bytes are kept.
+fn read_end(cut: Cut, line: &[u8], values: &mut [u8]) -> Ended
+    ensures { λ r. ⌜ r ≡ lineEnd cut (now (line .entry)) (now (values .entry)) ⌝ }
+    ensures { λ r. ⌜ now (values .exit) ≡ valuesAtEnd cut (now (line .entry)) (now (values .entry)) ⌝ }
 {
+    let reading = cut.reading;
+    if cut.long {
+        return Ended {
+            refusal: too_long(line),
+            cut: line_start(reading, next(cut.number)),
+        };
+    }
+    let r = assignment::read_line(reading, line, values);
+    let after = r.reading;
+    Ended {
+        refusal: r.refusal,
+        cut: line_start(after, next(cut.number)),
+    }
+}
+
+// The same of a line whose bytes are kept at the start of space.
+fn end_line(cut: Cut, space: &[u8], values: &mut [u8]) -> Ended
+    ensures { λ r. ⌜ r ≡ lineEnd cut (take (cut .held) (now (space .entry))) (now (values .entry)) ⌝ }
+    ensures { λ r. ⌜ now (values .exit) ≡ valuesAtEnd cut (take (cut .held) (now (space .entry))) (now (values .entry)) ⌝ }
+{
+    let held = cut.held;
+    if held < space.len() {
+        return read_end(cut, &space[..held], values);
+    }
+    read_end(cut, space, values)
+}
+
+// A byte of a line.
+fn keep_byte(cut: Cut, space: &mut [u8], b: u8) -> Cut
+    ensures { λ r. ⌜ r ≡ keepByte (length (now (space .entry))) cut ⌝ }
+    ensures { λ r. ⌜ now (space .exit) ≡ set (now (space .entry)) (cut .held) b ⌝ }
+{
+    let reading = cut.reading;
+    let held = cut.held;
+    if held < space.len() {
+        space[held] = b;
+        return Cut {
+            reading,
+            number: cut.number,
+            held: held + 1,
+            long: cut.long,
+        };
+    }
+    Cut {
+        reading,
+        number: cut.number,
+        held,
+        long: true,
+    }
+}
+
+// A piece of the output, up to and with the first line that is refused. The start of space keeps the bytes of a line from piece to piece.
+pub fn feed(cut: Cut, piece: &[u8], space: &mut [u8], values: &mut [u8]) -> Fed
+    ensures { λ r. ⌜ r ≡ feeding (now (piece .entry)) (cutting cut (now (space .entry)) (now (values .entry))) .answer ⌝ }
+    ensures { λ r. ⌜ now (space .exit) ≡ feeding (now (piece .entry)) (cutting cut (now (space .entry)) (now (values .entry))) .after .space ⌝ }
+    ensures { λ r. ⌜ now (values .exit) ≡ feeding (now (piece .entry)) (cutting cut (now (space .entry)) (now (values .entry))) .after .values ⌝ }
+{
+    let mut state = cut;
     let mut i: usize = 0;
-    let mut j = from;
-    while j < end {
-        space[i] = space[j];
-        i += 1;
-        j += 1;
-    }
-    i
-}
-
-// A line that fills space has no room to go on: it is passed over, and reported unless it is a comment or an `s` line.
-fn too_long(space: &[u8], t: State) -> State {
-    if t.skipping {
-        return t;
-    }
-    if 0 < space.len() {
-        if space[0] != b'c' {
-            if space[0] != b's' {
-                report::long_line(STDERR_FILENO, t.number);
+    while i < piece.len() {
+        if piece[i] == 10 {
+            let line = state.number;
+            let end = end_line(state, space, values);
+            let next = end.cut;
+            if end.refusal != 0 {
+                return Fed {
+                    cut: next,
+                    used: i + 1,
+                    refusal: end.refusal,
+                    line,
+                };
             }
+            state = next;
+        } else {
+            let more = keep_byte(state, space, piece[i]);
+            state = more;
         }
+        i += 1;
     }
-    State {
-        closed: t.closed,
-        number: t.number,
-        skipping: true,
+    Fed {
+        cut: state,
+        used: i,
+        refusal: 0,
+        line: 0,
     }
 }
 
-// What is left of a piece: the first `held` bytes of space.
-struct Left {
-    state: State,
-    held: usize,
-    ended: bool,
-}
-
-// One piece of the input.
-fn take_piece(fd: i32, space: &mut [u8], values: &mut [u8], t: State, held: usize) -> Left
-    requires { ⌜ held ≤ length (now space) ⌝ }
-    ensures { λ r. ⌜ r .held ≤ length (now (space .exit)) ⌝ }
+// Whether no byte of the line has come.
+fn at_start(cut: Cut) -> bool
+    ensures { λ r. ⌜ r ≡ atStart cut ⌝ }
 {
-    let got = more(fd, space, held);
-    if got == 0 {
-        return Left {
-            state: t,
-            held,
-            ended: true,
+    if cut.held != 0 {
+        return false;
+    }
+    !cut.long
+}
+
+// The end of the output, which ends a last line without a newline.
+pub fn finish(cut: Cut, space: &[u8], values: &mut [u8]) -> Fed
+    ensures { λ r. ⌜ r ≡ finishing (cutting cut (now (space .entry)) (now (values .entry))) .answer ⌝ }
+    ensures { λ r. ⌜ now (values .exit) ≡ finishing (cutting cut (now (space .entry)) (now (values .entry))) .after .values ⌝ }
+{
+    if at_start(cut) {
+        return Fed {
+            cut,
+            used: 0,
+            refusal: 0,
+            line: 0,
         };
     }
-    let end = held + got;
-    let u = take_lines(&space[..end], values, t);
-    let state = u.state;
-    let k = keep(space, u.rest, end);
-    if k < space.len() {
-        return Left {
-            state,
-            held: k,
-            ended: false,
-        };
+    let line = cut.number;
+    let end = end_line(cut, space, values);
+    let next = end.cut;
+    Fed {
+        cut: next,
+        used: 0,
+        refusal: end.refusal,
+        line,
     }
-    let long = too_long(space, state);
-    Left {
-        state: long,
-        held: 0,
-        ended: false,
-    }
-}
-
-// A last line without a newline.
-fn finish(space: &[u8], values: &mut [u8], t: State, held: usize) -> Reading
-    requires { ⌜ held ≤ length (now space) ⌝ }
-{
-    if held == 0 {
-        return Reading { closed: t.closed };
-    }
-    let u = take_line(&space[..held], values, t);
-    Reading { closed: u.closed }
-}
-
-// All of the input. A proved loop has to end: its turns are counted down from a number that no run uses up.
-fn read_all(fd: i32, space: &mut [u8], values: &mut [u8]) -> Reading {
-    let mut state = State {
-        closed: false,
-        number: 1,
-        skipping: false,
-    };
-    let mut held: usize = 0;
-    let mut turns = u64::MAX;
-    while turns > 0 {
-        let p = take_piece(fd, space, values, state, held);
-        state = p.state;
-        held = p.held;
-        if p.ended {
-            return finish(space, values, state, held);
-        }
-        turns -= 1;
-    }
-    Reading {
-        closed: state.closed,
-    }
-}
-
-// Room for the longest line. Only its length is told: the list of its zeros is too long for the prover to look at.
-fn room() -> [u8; LONGEST]
-    ensures { λ r. ⌜ length r ≡ 1048576 ⌝ }
-{
-    [0; LONGEST]
-}
-
-// The whole output of a solver, from fd. The values are as long as the listing has variables; each line that is not refused sets those that it says.
-pub fn read_lines(fd: i32, values: &mut [u8]) -> Reading {
-    let mut space = room();
-    read_all(fd, &mut space, values)
 }

@@ -5,7 +5,7 @@ use native.Mathlib.Omega.{arith}
 use mathlib.Core.Bool.{not, _||_}
 use mathlib.Core.List.{List, [], _∷_, _++_, map}
 use lib.Dec.{T, leb, eqb, leb→le}
-use lib.ListN.{length, length-append, length-map}
+use lib.ListN.{length, length-map}
 use Rattle.model.specs.declared.Literal.{Literal}
 use Rattle.model.specs.declared.Literal.the-variants.{Pos, Neg}
 use Rattle.model.specs.Lists.{range, between, isEmpty}
@@ -56,22 +56,6 @@ module _ (code k : ℕ) (r : T (codeInRange code k)) where
       by-code (λ code. (code ≡ 6 → k ≤ limits .members - 1) → length (memberClauses code k) ≤ limits .members)
       (λ h. omega arith) (λ h. omega arith) (λ h. omega arith) (λ h. omega arith) (λ h. omega arith)
       (λ h. let l = h refl in omega (arith, length-map {B = List Literal} (range 1 k) (λ i. Neg i ∷ Pos 0 ∷ []), range-length 1 k))
-      code by-entrant count-in
-
-  -- each with no more literals
-  pub literal-bound : All (λ ls. length ls ≤ limits .members) (memberClauses code k)
-  unfolding memberClauses shortClauses unionClauses
-  literal-bound =
-      by-code (λ code. (code ≡ 6 → k ≤ limits .members - 1) → All (λ ls. length ls ≤ limits .members) (memberClauses code k))
-      (λ h. (omega arith, (omega arith, tt)))
-      (λ h. (omega arith, tt))
-      (λ h. (omega arith, (omega arith, (omega arith, tt))))
-      (λ h. (omega arith, (omega arith, (omega arith, tt))))
-      (λ h. (omega arith, (omega arith, (omega arith, tt)))) (λ h. let l = h refl in (
-        omega (arith, length-append (map Pos (range 1 k)) (Neg 0 ∷ []), length-map (range 1 k) Pos, range-length 1 k),
-        all-map-iff (λ ls. length ls ≤ limits .members) (λ i. Neg i ∷ Pos 0 ∷ []) (range 1 k) .1
-            (range-all (λ i. 2 ≤ limits .members) 1 k (λ j _ _. omega arith)),
-      ))
       code by-entrant count-in
 
 -- ---- the members that a clause speaks of

@@ -19,7 +19,8 @@ use Rattle.model.specs.Sheet.{readSheet}
 use Rattle.model.specs.Propagate.{propagated, sameTable, isFixpoint}
 use Rattle.model.specs.Totalizer.{treeClauseCount, treeOutputCount}
 use Rattle.model.specs.Cnf.{variableCount, clauses}
-use Rattle.model.specs.Text.{headerText, blockText, listing, blockRefusal}
+use Rattle.model.specs.Text.{fieldText, headerText, blockText, listing, blockRefusal}
+use Rattle.model.specs.SheetText.{sheetText}
 use Rattle.model.specs.Dimacs.{Formula, readDimacs}
 use Rattle.model.specs.Assignment.{lineRead, valuesAfter}
 use Rattle.model.specs.Close.{closed}
@@ -257,3 +258,21 @@ sampleTable = dimacs1993 && simple && competition
 pub samples : T sampleTable
 unfolding defs bytes sameLiteral sameClauses reads dimacs1993 simple competition sampleTable
 samples = tt
+
+-- ---- a model's sheet: the bytes that it was read from; E settled; and a field of four digits, and of five
+
+writesAs : Model → String → Bool
+writesAs m s = same (sheetText m) (bytes s)
+
+unionOfTwo : String
+unionOfTwo = "   1   1   3   1\n   2   1   0   1   2\n   2   2   0   1   0\n   2   3   0   1   1\n   3   6   2   1   2   3\n"
+
+pub textTable : Bool
+textTable =
+    writesAs (modelOf sheetA) sheetA && writesAs (modelOf sheetF) sheetF && writesAs (modelOf unionOfTwo) unionOfTwo
+    && writesAs (settled sheetE) "   1   2   1   0\n   2   1   1   1   2   0\n"
+    && same (fieldText 9999) (bytes "9999") && same (fieldText 10000) []
+
+pub texts : T textTable
+unfolding defs bytes same modelOf settled sheetA sheetE sheetF writesAs unionOfTwo textTable
+texts = tt

@@ -8,6 +8,7 @@ pub mod Propagate
 pub mod Totalizer
 pub mod Cnf
 pub mod Text
+pub mod SheetText
 pub mod Dimacs
 pub mod Assignment
 pub mod Close

@@ -1,9 +1,9 @@
 -- The bytes of the listing, and what the block writer answers.
-use Prim.Native.Nat.{ℕ, zero, suc, _+_, _/_, _%_}
+use Prim.Native.Nat.{ℕ, zero, suc, _+_, _-_, _/_, _%_}
 use mathlib.Core.Bool.{Bool, true, false, cond, _&&_}
 use mathlib.Core.List.{List, [], _∷_, _++_}
-use lib.Dec.{ltb, eqb}
-use lib.ListN.{length, drop}
+use lib.Dec.{leb, ltb, eqb}
+use lib.ListN.{length, drop, replicate}
 use Rattle.model.specs.declared.Literal.{Literal}
 use Rattle.model.specs.declared.Literal.the-variants.{Pos, Neg}
 use Rattle.model.specs.declared.Model.{Model}
@@ -22,6 +22,10 @@ digits (suc places) v = elim (ltb v 10) [ true ↦ (48 + v) ∷ [] | false ↦ d
 
 unfoldable pub decimal : ℕ → List ℕ
 decimal v = digits (suc v) v
+
+-- "each 4 columns wide: spaces, then a decimal number .., right-justified"; nothing for a number that has more digits
+unfoldable pub fieldText : ℕ → List ℕ
+fieldText v = cond (leb (length (decimal v)) 4) (replicate (4 - length (decimal v)) 32 ++ decimal v) []
 
 -- ---- "A clause is its literals (minus sign for negation) each followed by one space, then `0` and byte 10."
 

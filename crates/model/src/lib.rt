@@ -1,17 +1,15 @@
-// The model of a sheet: its types, its limits and the range check (refusal 20), and what each entry answers.
+// The model of a sheet: its types and its limits, and what each entry answers.
 // Everything above is built on this crate: its specs/ hold every definition of document 01.
 ghost use mathlib.Core.Path.{_≡_};
-ghost use Prim.Native.Nat.{_≤_, min};
+ghost use Prim.Native.Nat.{min};
 ghost use mathlib.Core.Bool.{cond};
 ghost use mathlib.Core.Option.{none};
-ghost use lib.Dec.{leb, eqb};
-ghost use lib.ListN.{length, take, drop};
-ghost use Rattle.model.specs.Lists.{every, any, distinct, between};
+ghost use lib.Dec.{leb};
+ghost use lib.ListN.{length};
 ghost use Rattle.model.specs.Limits.{limits};
 ghost use Rattle.model.specs.Words.{full};
-ghost use Rattle.model.specs.Clauses.{memberCount};
 ghost use Rattle.model.specs.Sheet.{digitsAfter, shortNumber, digitsValue};
-ghost use Rattle.model.specs.Model.{zeroModel, groupInRange, codeInRange, constraintInRange, inRange};
+ghost use Rattle.model.specs.Model.{zeroModel};
 
 // "F" and "-F" of document 01: of a member of a constraint, of a group, or of a variable.
 pub enum Literal {
@@ -167,34 +165,12 @@ impl Model {
             constraints: [c; Model::CONSTRAINTS],
         }
     }
-
-    // False is refusal 20.
-    pub fn in_range(self) -> bool
-        ensures { λ r. ⌜ r ≡ inRange self ⌝ }
-    {
-        if self.n < 1 {
-            return false;
-        }
-        if Model::ENTRANTS < self.n {
-            return false;
-        }
-        if self.s < 1 {
-            return false;
-        }
-        if Model::GROUPS < self.s as usize {
-            return false;
-        }
-        if Model::CONSTRAINTS < self.c as usize {
-            return false;
-        }
-        let groups = self.groups;
-        if !groups_in_range(groups, self.s as usize, self.n) {
-            return false;
-        }
-        let constraints = self.constraints;
-        constraints_in_range(constraints, self.c as usize, self.s)
-    }
 }
+
+// The arrays of a model have the lengths of their types.
+pub fn whole(groups: [Group; Model::GROUPS], constraints: [Constraint; Model::CONSTRAINTS])
+    ensures { λ r. ⌜ (length groups ≡ limits .groups) × (length constraints ≡ limits .constraints) ⌝ }
+{}
 
 // The entrants 1 to n as a word; as many as a word has fill it, which no shift gives.
 pub fn entrants(n: u32) -> u64
@@ -204,158 +180,6 @@ pub fn entrants(n: u32) -> u64
         return (1 << n) - 1;
     }
     18446744073709551615
-}
-
-fn group_in_range(g: Group, n: u32) -> bool
-    requires { ⌜ n ≤ limits .entrants ⌝ }
-    ensures { λ r. ⌜ r ≡ groupInRange n g ⌝ }
-{
-    if g.fixed & g.possible != g.fixed {
-        return false;
-    }
-    if entrants(n) < g.possible {
-        return false;
-    }
-    if g.high < g.low {
-        return false;
-    }
-    g.high <= n
-}
-
-// The first s groups.
-fn groups_in_range(groups: [Group; Model::GROUPS], s: usize, n: u32) -> bool
-    requires { ⌜ (n ≤ limits .entrants) × (s ≤ limits .groups) ⌝ }
-    ensures { λ r. ⌜ r ≡ every (groupInRange n) (take s groups) ⌝ }
-{
-    let mut i: usize = 0;
-    while i < s {
-        let g = groups[i];
-        if !group_in_range(g, n) {
-            return false;
-        }
-        i += 1;
-    }
-    true
-}
-
-// The groups of each code below 6.
-const COUNTS: [usize; 6] = [0, 2, 2, 3, 3, 3];
-
-// How many groups a constraint has.
-pub fn member_count(code: u32, count: u32) -> usize
-    ensures { λ r. ⌜ r ≡ memberCount code count ⌝ }
-{
-    if code == 6 {
-        return count as usize + 1;
-    }
-    if code < 6 {
-        return COUNTS[code as usize];
-    }
-    0
-}
-
-// The first k numbers are 1 to s.
-pub fn all_between(ids: [u32; Model::MEMBERS], k: usize, s: u32) -> bool
-    ensures { λ r. ⌜ r ≡ every (between 1 s) (take k ids) ⌝ }
-{
-    let mut i: usize = 0;
-    while i < Model::MEMBERS {
-        if k <= i {
-            return true;
-        }
-        if ids[i] < 1 {
-            return false;
-        }
-        if s < ids[i] {
-            return false;
-        }
-        i += 1;
-    }
-    true
-}
-
-// Whether x stands among the first k numbers, from place i on.
-fn stands(ids: [u32; Model::MEMBERS], i: usize, k: usize, x: u32) -> bool
-    ensures { λ r. ⌜ r ≡ any (eqb x) (drop i (take k ids)) ⌝ }
-{
-    let mut j = i;
-    while j < Model::MEMBERS {
-        if k <= j {
-            return false;
-        }
-        if x == ids[j] {
-            return true;
-        }
-        j += 1;
-    }
-    false
-}
-
-// The first k numbers are all different.
-pub fn all_distinct(ids: [u32; Model::MEMBERS], k: usize) -> bool
-    ensures { λ r. ⌜ r ≡ distinct (take k ids) ⌝ }
-{
-    let mut i: usize = 0;
-    while i < Model::MEMBERS {
-        if k <= i {
-            return true;
-        }
-        let x = ids[i];
-        if stands(ids, i + 1, k, x) {
-            return false;
-        }
-        i += 1;
-    }
-    true
-}
-
-// A code is 1 to 6, and the count of code 6 is 2 to 16.
-pub fn code_in_range(code: u32, count: u32) -> bool
-    ensures { λ r. ⌜ r ≡ codeInRange code count ⌝ }
-{
-    if code < 1 {
-        return false;
-    }
-    if 6 < code {
-        return false;
-    }
-    if code != 6 {
-        return true;
-    }
-    if count < 2 {
-        return false;
-    }
-    count as usize <= Model::MEMBERS - 1
-}
-
-fn constraint_in_range(c: Constraint, s: u32) -> bool
-    ensures { λ r. ⌜ r ≡ constraintInRange s c ⌝ }
-{
-    if !code_in_range(c.code, c.count) {
-        return false;
-    }
-    let ids = c.groups;
-    let k = member_count(c.code, c.count);
-    if !all_between(ids, k, s) {
-        return false;
-    }
-    all_distinct(ids, k)
-}
-
-// The first c constraints.
-fn constraints_in_range(constraints: [Constraint; Model::CONSTRAINTS], c: usize, s: u32) -> bool
-    requires { ⌜ c ≤ limits .constraints ⌝ }
-    ensures { λ r. ⌜ r ≡ every (constraintInRange s) (take c constraints) ⌝ }
-{
-    let mut j: usize = 0;
-    while j < c {
-        let k = constraints[j];
-        if !constraint_in_range(k, s) {
-            return false;
-        }
-        j += 1;
-    }
-    true
 }
 
 // The number that digits stand for, up to 9 of them: of a field of a sheet, and of a literal of a solver's line.

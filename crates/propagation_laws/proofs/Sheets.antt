@@ -112,7 +112,7 @@ constraint-whole l t =
 abbrev accepted : Model → SheetRead
 accepted m = record { refusal = 0; line = 0; model = m }
 
-abbrev inGroups : Model → List Group → Model
+abbrev pub inGroups : Model → List Group → Model
 inGroups q gs = record { n = q .n; s = q .s; c = q .c; groups = gs; constraints = q .constraints }
 
 abbrev inConstraints : Model → List Constraint → Model
@@ -131,7 +131,7 @@ accept-cons l ls done m p e =
     go r rest true q e = (eqb-true r 0 q, e)
     go r rest false q e = absurd (eqb-false r 0 q (ap (λ (a : SheetRead). a .refusal) e))
 
-read-cons : (l : List ℕ) (ls : List (List ℕ)) (done : ℕ) (m : Model) → lineRefusal (m .n) (m .s) (m .c) done l ≡ 0
+pub read-cons : (l : List ℕ) (ls : List (List ℕ)) (done : ℕ) (m : Model) → lineRefusal (m .n) (m .s) (m .c) done l ≡ 0
     → readLines (l ∷ ls) done m ≡ readLines ls (done + 1) (withLine done m l)
 read-cons l ls done m e = rw e
 
@@ -151,7 +151,7 @@ module _ (j : ℕ) (q : Model) (l : List ℕ) (h : suc j ≤ q .s) where
   unfolding lineRefusal
   group-line e = rw (eqb·suc-zero j, le-leb (suc j) (q .s) h) at (passed-form (formRefusal l) _ e .1)
 
-  group-step : withLine (suc j) q l ≡ inGroups q (set (q .groups) j (groupFrom (q .n) l))
+  pub group-step : withLine (suc j) q l ≡ inGroups q (set (q .groups) j (groupFrom (q .n) l))
   unfolding withLine withGroup
   group-step =
       rw (eqb·suc-zero j, le-leb (suc j) (q .s) h)
@@ -189,7 +189,7 @@ group-part (suc k) j (l ∷ ls) q p e h =
 
 -- ---- constraint lines
 
-abbrev Good : ℕ → List ℕ → Type 0
+abbrev pub Good : ℕ → List ℕ → Type 0
 Good s l = (formRefusal l ≡ 0) × (constraintRefusal s l ≡ 0)
 
 module _ (i : ℕ) (q : Model) (l : List ℕ) where
@@ -239,7 +239,7 @@ constraint-part (l ∷ ls) i q p h e =
     let ih = constraint-part ls (suc i) q' p (b .0) (sym (constraint-next i q l ls) ∙ a .1) in
     record { good = (b .1, ih .good); count = omega (arith, ih .count); model = ih .model }
 
-constraint-back : (ls : List (List ℕ)) (i : ℕ) (q : Model) → All (Good (q .s)) ls → i + length ls ≡ q .c
+pub constraint-back : (ls : List (List ℕ)) (i : ℕ) (q : Model) → All (Good (q .s)) ls → i + length ls ≡ q .c
     → readLines ls (suc (q .s + i)) q ≡ accepted (inConstraints q (sets (q .constraints) i (map constraintFrom ls)))
 constraint-back [] i q g h = unfold afterLast in rw (lt-leb (suc (q .s + i)) (q .s + q .c) (omega arith))
 constraint-back (l ∷ ls) i q g h =
@@ -357,11 +357,11 @@ module _ (ls : List (List ℕ)) (m : Model) (p : Parts ls m) where
 
 -- ---- the bytes of an accepted sheet
 
-record Bytes (b : List ℕ) (m : Model) : Type 0 where
-  short : length b ≤ limits .sheet
-  some : 0 < length b
-  ended : T (ends b)
-  reads : readLines (linesOf b) 0 zeroModel ≡ accepted m
+pub record Bytes (b : List ℕ) (m : Model) : Type 0 where
+  pub short : length b ≤ limits .sheet
+  pub some : 0 < length b
+  pub ended : T (ends b)
+  pub reads : readLines (linesOf b) 0 zeroModel ≡ accepted m
 
 last : (b : List ℕ) → 0 < length b → eqb (getD b (length b - 1) 0) 10 ≡ ends b
 last [] h = absurd (omega arith)
@@ -385,7 +385,7 @@ bytes b m e = go (ltb (limits .sheet) (length b)) refl (eqb (length b) 0) refl (
         let h : 0 < length b = omega (arith, eqb-false (length b) 0 eu) in
         record { short = ltb-false (limits .sheet) (length b) et; some = h; ended = true-T (ends b) (sym (last b h) ∙ ev); reads = e }
 
-from-bytes : (b : List ℕ) (m : Model) → Bytes b m → Accepted b m
+pub from-bytes : (b : List ℕ) (m : Model) → Bytes b m → Accepted b m
 unfolding readSheet
 from-bytes b m h =
     rw (

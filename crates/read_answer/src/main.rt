@@ -1,15 +1,34 @@
 // Reads a solver's answer to any listing: argument 1 is the number of the listing's variables, the solver's output comes on standard input.
+ghost use mathlib.Core.Path.{_≡_};
 ghost use Prim.Native.Nat.{_≤_};
+ghost use mathlib.Core.Bool.{cond};
+ghost use mathlib.Core.Option.{none};
+ghost use lib.Dec.{leb};
+ghost use lib.ListN.{length};
+ghost use Rattle.model.specs.Sheet.{numberOf, digitsValue};
+ghost use Rattle.report.specs.Messages.{Counted};
+ghost use Rattle.lines.specs.Cut.{cutting, cutBytes};
+ghost use Rattle.lines.specs.Lines.{ReadFrom};
 use libc::STDERR_FILENO;
 use libc::STDIN_FILENO;
 use libc::STDOUT_FILENO;
+use lines::Cut;
+use lines::Fed;
 use model::Digits;
+use model::Reading;
+use model::Written;
+use report::Message;
 
 // The most variables of a listing that is read.
 const MOST: usize = 65536;
 
-// The number of variables: decimal, without needless zeros.
-fn variables(text: &[u8]) -> Digits {
+// The longest line that is read. A `v` line that says each of 65,536 variables once has less than 500,000 bytes.
+const LONGEST: usize = 1048576;
+
+// The number of variables: decimal, without needless zeros, up to 9 digits.
+fn variables(text: &[u8]) -> Digits
+    ensures { λ r. ⌜ digitsValue r ≡ cond (leb (length (now (text .entry))) 9) (numberOf (now (text .entry))) none ⌝ }
+{
     if text.len() == 0 {
         return Digits::Bad;
     }
@@ -21,73 +40,92 @@ fn variables(text: &[u8]) -> Digits {
     model::decimal(text)
 }
 
-fn say(text: &[u8]) {
-    io::write_all(STDOUT_FILENO, text);
+// What cannot be written is reported.
+fn write(fd: i32, text: &[u8]) -> bool {
+    if io::write_all(fd, text) {
+        return true;
+    }
+    io::write_all(STDERR_FILENO, b"the output could not be written\n");
+    false
 }
 
-// A variable that is said, as a literal after one blank.
-fn print_literal(value: u8, variable: u64) {
-    match value {
-        1 => {
-            say(b" ");
-            io::print_decimal(STDOUT_FILENO, variable);
-        }
-        2 => {
-            say(b" -");
-            io::print_decimal(STDOUT_FILENO, variable);
-        }
-        _ => {}
+fn say(fd: i32, m: Message)
+    requires { ⌜ Counted m ⌝ }
+{
+    let n = m.length;
+    let bytes = m.bytes;
+    write(fd, &bytes[..n]);
+}
+
+// A line that is refused is reported on standard error, and reading goes on.
+fn report_line(fed: Fed) {
+    if fed.refusal != 0 {
+        say(STDERR_FILENO, report::refused_line(fed.line, fed.refusal));
     }
 }
 
-// `v 1 -2 3`: each variable that is said.
-fn print_values(values: &[u8]) {
-    say(b"v");
-    let mut i: usize = 0;
-    while i < values.len() {
-        print_literal(values[i], i as u64 + 1);
-        i += 1;
+// One piece of the output.
+fn take_piece(cut: Cut, piece: &[u8], space: &mut [u8], values: &mut [u8]) -> Cut
+    ensures { λ r. ⌜ r ≡ cutBytes (now (piece .entry)) (cutting cut (now (space .entry)) (now (values .entry))) .cut ⌝ }
+    ensures { λ r. ⌜ now (space .exit) ≡ cutBytes (now (piece .entry)) (cutting cut (now (space .entry)) (now (values .entry))) .space ⌝ }
+    ensures { λ r. ⌜ now (values .exit) ≡ cutBytes (now (piece .entry)) (cutting cut (now (space .entry)) (now (values .entry))) .values ⌝ }
+{
+    let mut state = cut;
+    let mut at: usize = 0;
+    while at < piece.len() {
+        let fed = lines::feed(state, &piece[at..], space, values);
+        report_line(fed);
+        let next = fed.cut;
+        state = next;
+        at += fed.used;
     }
-    say(b"\n");
+    state
 }
 
-fn is_said(value: u8) -> bool {
-    value == 1 || value == 2
+// Room for the longest line. Only its length is told: the list of its zeros is too long for the prover to look at.
+fn room() -> [u8; LONGEST]
+    ensures { λ r. ⌜ length r ≡ 1048576 ⌝ }
+{
+    [0; LONGEST]
 }
 
-// How many variables no line said.
-fn unsaid(values: &[u8]) -> u64 {
-    let mut k: u64 = 0;
-    let mut i: usize = 0;
-    while i < values.len() {
-        if !is_said(values[i]) {
-            k += 1;
+// The whole output of a solver. A proved loop has to end: its turns are counted down from a number that no run uses up.
+fn read_lines(values: &mut [u8]) -> Reading
+    ensures { λ r. ⌜ ReadFrom 1048576 (now (values .entry)) (now (values .exit)) r ⌝ }
+{
+    let mut space = room();
+    let mut piece = io::large_buffer();
+    let mut cut = lines::start();
+    let mut turns = u64::MAX;
+    while turns > 0 {
+        let got = libc::read(STDIN_FILENO, &mut piece);
+        let n = io::count(got, &piece);
+        if n == 0 {
+            break;
         }
-        i += 1;
+        let next = take_piece(cut, &piece[..n], &mut space, values);
+        cut = next;
+        turns -= 1;
     }
-    k
+    let last = lines::finish(cut, &space, values);
+    report_line(last);
+    last.cut.reading
 }
 
-// `unsaid K`, where there are any.
-fn print_unsaid(k: u64) {
-    if k == 0 {
+// The values that the solver's output says, whether it closed them, and how many it left unsaid.
+fn print_answer(values: &mut [u8])
+    requires { ⌜ length (now values) ≤ 65536 ⌝ }
+{
+    let reading = read_lines(values);
+    let mut line = room();
+    let Written::Bytes(n) = answer::write_values(values, &mut line) else {
+        return;
+    };
+    if !write(STDOUT_FILENO, &line[..n]) {
         return;
     }
-    say(b"unsaid ");
-    io::print_decimal(STDOUT_FILENO, k);
-    say(b"\n");
-}
-
-// The values that the solver's output says, and whether it closed them.
-fn answer(values: &mut [u8]) {
-    let reading = lines::read_lines(STDIN_FILENO, values);
-    print_values(values);
-    if reading.closed {
-        say(b"closed\n");
-    } else {
-        say(b"not closed\n");
-    }
-    print_unsaid(unsaid(values));
+    let unsaid = answer::unsaid(values) as u32;
+    say(STDOUT_FILENO, report::ending(reading.closed, unsaid));
 }
 
 // A value for each of v variables.
@@ -95,7 +133,7 @@ fn with_values(v: usize)
     requires { ⌜ v ≤ 65536 ⌝ }
 {
     let mut values = io::large_buffer();
-    answer(&mut values[..v]);
+    print_answer(&mut values[..v]);
 }
 
 fn usage() {

@@ -1,15 +1,24 @@
 // Reads a sheet from standard input. Accepted: one line with n, s and c. Refused: the number, the line, and what it means.
+ghost use Rattle.report.specs.Messages.{Counted};
+use libc::STDERR_FILENO;
 use libc::STDIN_FILENO;
 use libc::STDOUT_FILENO;
 use model::Model;
+use report::Message;
 
-fn print_counts(n: u32, s: u32, c: u32) {
-    io::print_decimal(STDOUT_FILENO, n as u64);
-    io::write_all(STDOUT_FILENO, b" entrants, ");
-    io::print_decimal(STDOUT_FILENO, s as u64);
-    io::write_all(STDOUT_FILENO, b" groups, ");
-    io::print_decimal(STDOUT_FILENO, c as u64);
-    io::write_all(STDOUT_FILENO, b" constraints\n");
+// What cannot be written is reported.
+fn write(fd: i32, text: &[u8]) {
+    if !io::write_all(fd, text) {
+        io::write_all(STDERR_FILENO, b"the output could not be written\n");
+    }
+}
+
+fn say(fd: i32, m: Message)
+    requires { ⌜ Counted m ⌝ }
+{
+    let n = m.length;
+    let bytes = m.bytes;
+    write(fd, &bytes[..n]);
 }
 
 fn main() {
@@ -18,8 +27,11 @@ fn main() {
     let n = io::read_full(STDIN_FILENO, &mut space);
     let r = sheet::read_sheet(&space[..n]);
     if r.refusal != 0 {
-        report::refused_at(STDOUT_FILENO, r.refusal, r.line);
+        say(STDOUT_FILENO, report::refused_at(r.refusal, r.line));
         return;
     }
-    print_counts(r.model.n, r.model.s, r.model.c);
+    say(
+        STDOUT_FILENO,
+        report::counts(r.model.n, r.model.s, r.model.c),
+    );
 }

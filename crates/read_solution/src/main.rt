@@ -2,46 +2,99 @@
 ghost use mathlib.Core.Path.{_≡_};
 ghost use lib.ListN.{length};
 ghost use Rattle.model.specs.Limits.{limits};
+ghost use Rattle.report.specs.Messages.{Counted};
+ghost use Rattle.lines.specs.Cut.{cutting, cutBytes};
+ghost use Rattle.lines.specs.Lines.{ReadFrom};
+use libc::STDERR_FILENO;
 use libc::STDIN_FILENO;
 use libc::STDOUT_FILENO;
+use lines::Cut;
+use lines::Fed;
 use model::Model;
+use model::Reading;
+use model::Written;
+use report::Message;
 
-// Entrant e + 1 after one blank, where it is in w.
-fn print_entrant(w: u64, e: u32) {
-    if Model::WORD <= e {
-        return;
-    }
-    if w >> e & 1 == 1 {
-        io::write_all(STDOUT_FILENO, b" ");
-        io::print_decimal(STDOUT_FILENO, e as u64 + 1);
-    }
-}
+// The longest line that is read. A `v` line that says each of a listing's variables once has less than 400,000 bytes.
+const LONGEST: usize = 1048576;
 
-fn print_entrants(w: u64) {
-    let mut e: u32 = 0;
-    while e < Model::ENTRANTS {
-        print_entrant(w, e);
-        e += 1;
+// What cannot be written is reported.
+fn write(fd: i32, text: &[u8]) {
+    if !io::write_all(fd, text) {
+        io::write_all(STDERR_FILENO, b"the output could not be written\n");
     }
 }
 
-// `1: 3 7 9`: the group's number, then each entrant.
-fn print_group(number: u64, w: u64) {
-    io::print_decimal(STDOUT_FILENO, number);
-    io::write_all(STDOUT_FILENO, b":");
-    print_entrants(w);
-    io::write_all(STDOUT_FILENO, b"\n");
+fn say(fd: i32, m: Message)
+    requires { ⌜ Counted m ⌝ }
+{
+    let n = m.length;
+    let bytes = m.bytes;
+    write(fd, &bytes[..n]);
 }
 
-fn print_groups(words: [u64; Model::GROUPS], s: usize) {
-    let mut i: usize = 0;
-    while i < Model::GROUPS {
-        if s <= i {
-            return;
+// A line that is refused is reported on standard error, and reading goes on.
+fn report_line(fed: Fed) {
+    if fed.refusal != 0 {
+        say(STDERR_FILENO, report::refused_line(fed.line, fed.refusal));
+    }
+}
+
+// One piece of the output.
+fn take_piece(cut: Cut, piece: &[u8], space: &mut [u8], values: &mut [u8]) -> Cut
+    ensures { λ r. ⌜ r ≡ cutBytes (now (piece .entry)) (cutting cut (now (space .entry)) (now (values .entry))) .cut ⌝ }
+    ensures { λ r. ⌜ now (space .exit) ≡ cutBytes (now (piece .entry)) (cutting cut (now (space .entry)) (now (values .entry))) .space ⌝ }
+    ensures { λ r. ⌜ now (values .exit) ≡ cutBytes (now (piece .entry)) (cutting cut (now (space .entry)) (now (values .entry))) .values ⌝ }
+{
+    let mut state = cut;
+    let mut at: usize = 0;
+    while at < piece.len() {
+        let fed = lines::feed(state, &piece[at..], space, values);
+        report_line(fed);
+        let next = fed.cut;
+        state = next;
+        at += fed.used;
+    }
+    state
+}
+
+// Room for the longest line. Only its length is told: the list of its zeros is too long for the prover to look at.
+fn room() -> [u8; LONGEST]
+    ensures { λ r. ⌜ length r ≡ 1048576 ⌝ }
+{
+    [0; LONGEST]
+}
+
+// The whole output of a solver. A proved loop has to end: its turns are counted down from a number that no run uses up.
+fn read_lines(values: &mut [u8]) -> Reading
+    ensures { λ r. ⌜ ReadFrom 1048576 (now (values .entry)) (now (values .exit)) r ⌝ }
+{
+    let mut space = room();
+    let mut piece = io::large_buffer();
+    let mut cut = lines::start();
+    let mut turns = u64::MAX;
+    while turns > 0 {
+        let got = libc::read(STDIN_FILENO, &mut piece);
+        let n = io::count(got, &piece);
+        if n == 0 {
+            break;
         }
-        print_group(i as u64 + 1, words[i]);
-        i += 1;
+        let next = take_piece(cut, &piece[..n], &mut space, values);
+        cut = next;
+        turns -= 1;
     }
+    let last = lines::finish(cut, &space, values);
+    report_line(last);
+    last.cut.reading
+}
+
+// A line for each group.
+fn print_groups(words: [u64; Model::GROUPS], s: u32) {
+    let mut text = io::large_buffer();
+    let Written::Bytes(n) = answer::write_groups(words, s, &mut text) else {
+        return;
+    };
+    write(STDOUT_FILENO, &text[..n]);
 }
 
 // A value for each variable, all unsaid.
@@ -53,14 +106,14 @@ fn unsaid() -> [u8; Model::VARIABLES]
 
 // The settled model's groups, by what the solver says of its variables.
 fn read_back(m: Model, values: &mut [u8]) {
-    let reading = lines::read_lines(STDIN_FILENO, values);
+    let reading = read_lines(values);
     let c = solution::close(m, reading, values);
     if c.refusal != 0 {
-        report::refused(STDOUT_FILENO, c.refusal);
+        say(STDOUT_FILENO, report::refused(c.refusal));
         return;
     }
     let words = c.groups;
-    print_groups(words, m.s as usize);
+    print_groups(words, m.s);
 }
 
 // The settled model, with a value for each of its variables. None has more than there is room for.
@@ -90,12 +143,12 @@ fn main() {
     libc::close(fd);
     let r = sheet::read_sheet(&sheet_space[..n]);
     if r.refusal != 0 {
-        report::refused_at(STDOUT_FILENO, r.refusal, r.line);
+        say(STDOUT_FILENO, report::refused_at(r.refusal, r.line));
         return;
     }
     let p = propagate::propagate(r.model);
     if p.refusal != 0 {
-        report::refused(STDOUT_FILENO, p.refusal);
+        say(STDOUT_FILENO, report::refused(p.refusal));
         return;
     }
     with_values(p.model);

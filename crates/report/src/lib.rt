@@ -1,122 +1,251 @@
-// What the programs print of a refusal: its number, and its meaning in words for the counter.
-// No contract can say what is written, so these functions have none; what they print is compared with stored output.
+// What the programs say, each message by value: refusals with their meaning in words for the counter, and counts.
+ghost use mathlib.Core.Path.{_≡_};
+ghost use mathlib.Core.List.{[]};
+ghost use Rattle.model.specs.Text.{decimal};
+ghost use Rattle.report.specs.Messages.{meaningText, refusedText, refusedAtText, refusedLineText, numberText, countsText, passesText, Counted, closedText, endingText, blockLine, changedText, message, added, addedUnsaid, addedResult, addedTried};
 
-fn say(fd: i32, text: &[u8]) {
-    io::write_all(fd, text);
+// The most bytes of a message.
+const MOST: usize = 160;
+
+// The first `length` bytes are the text; the others are zero.
+pub struct Message {
+    pub length: usize,
+    pub bytes: [u8; MOST],
 }
 
-// The meaning of refusals 1 to 9, of a sheet.
-fn explain_sheet(fd: i32, refusal: u32) {
+fn empty() -> Message
+    ensures { λ r. ⌜ r ≡ message [] ⌝ }
+{
+    Message {
+        length: 0,
+        bytes: [0; MOST],
+    }
+}
+
+// The message with a text after it, where there is room.
+fn add(m: Message, text: &[u8]) -> Message
+    ensures { λ r. ⌜ r ≡ added m (now (text .entry)) ⌝ }
+{
+    let mut bytes = m.bytes;
+    let length = text::put_bytes(&mut bytes, m.length, text);
+    Message { length, bytes }
+}
+
+fn add_number(m: Message, v: u32) -> Message
+    ensures { λ r. ⌜ r ≡ added m (decimal v) ⌝ }
+{
+    let mut bytes = m.bytes;
+    let length = text::put_number(&mut bytes, m.length, v);
+    Message { length, bytes }
+}
+
+// What a refusal means.
+fn add_meaning(m: Message, refusal: u32) -> Message
+    ensures { λ r. ⌜ r ≡ added m (meaningText refusal) ⌝ }
+{
     match refusal {
-        1 => say(fd, b"the sheet has more than 57,873 bytes\n"),
-        2 => say(
-            fd,
+        1 => add(m, b"the sheet has more than 57,873 bytes\n"),
+        2 => add(
+            m,
             b"the sheet is empty, or its last line does not end in a newline\n",
         ),
-        3 => say(
-            fd,
+        3 => add(
+            m,
             b"the line is empty, or its length is no multiple of four columns\n",
         ),
-        4 => say(
-            fd,
+        4 => add(
+            m,
             b"a field is not a number set to the right of its four columns, without needless zeros\n",
         ),
-        5 => say(
-            fd,
+        5 => add(
+            m,
             b"another kind of line belongs here: one head (1), then the groups (2), then the constraints (3)\n",
         ),
-        6 => say(
-            fd,
+        6 => add(
+            m,
             b"the number of fields is wrong, or the code is not 1 to 6, or its count is not 2 to 16\n",
         ),
-        7 => say(fd, b"a number is out of its range\n"),
-        8 => say(fd, b"the group's number is not the next one\n"),
-        9 => say(fd, b"a group stands twice in the line\n"),
-        _ => {}
-    }
-}
-
-// The meaning of refusals 10 to 12 and 25 to 28, of a solver's lines and of closing.
-fn explain_solver(fd: i32, refusal: u32) {
-    match refusal {
-        10 => say(fd, b"the line is not one of the solver's output form\n"),
-        11 => say(
-            fd,
+        7 => add(m, b"a number is out of its range\n"),
+        8 => add(m, b"the group's number is not the next one\n"),
+        9 => add(m, b"a group stands twice in the line\n"),
+        10 => add(m, b"the line is not one of the solver's output form\n"),
+        11 => add(
+            m,
             b"the line names a variable that the listing does not have\n",
         ),
-        12 => say(fd, b"a variable is said twice\n"),
-        25 => say(fd, b"a value line comes after the closing 0\n"),
-        26 => say(fd, b"the number of values is not the number of variables\n"),
-        27 => say(
-            fd,
-            b"the solver's answer is not complete: no closing 0, or a variable is not said\n",
-        ),
-        28 => say(fd, b"the solver's answer breaks a clause\n"),
-        _ => {}
-    }
-}
-
-// The meaning of refusals 20 to 24 and 29, of a model.
-fn explain_model(fd: i32, refusal: u32) {
-    match refusal {
-        20 => say(fd, b"the model is out of a sheet's ranges\n"),
-        21 => say(
-            fd,
+        12 => add(m, b"a variable is said twice\n"),
+        20 => add(m, b"the model is out of a sheet's ranges\n"),
+        21 => add(
+            m,
             b"no draw: the groups' limits and constraints contradict each other\n",
         ),
-        22 => say(fd, b"the table is not settled\n"),
-        23 => say(fd, b"the listing has no such block\n"),
-        24 => say(fd, b"the buffer is shorter than the block\n"),
-        29 => say(fd, b"a constraint has a clause without literals\n"),
-        _ => {}
+        22 => add(m, b"the table is not settled\n"),
+        23 => add(m, b"the listing has no such block\n"),
+        24 => add(m, b"the buffer is shorter than the block\n"),
+        25 => add(m, b"a value line comes after the closing 0\n"),
+        26 => add(m, b"the number of values is not the number of variables\n"),
+        27 => add(
+            m,
+            b"the solver's answer is not complete: no closing 0, or a variable is not said\n",
+        ),
+        28 => add(m, b"the solver's answer breaks a clause\n"),
+        29 => add(m, b"a constraint has a clause without literals\n"),
+        _ => m,
     }
-}
-
-// `refused N`
-fn number(fd: i32, refusal: u32) {
-    say(fd, b"refused ");
-    io::print_decimal(fd, refusal as u64);
-}
-
-// A line of what refusal N means.
-fn meaning(fd: i32, refusal: u32) {
-    if refusal < 10 {
-        explain_sheet(fd, refusal);
-        return;
-    }
-    explain_solver(fd, refusal);
-    explain_model(fd, refusal);
 }
 
 // `refused N`, a newline and the meaning.
-pub fn refused(fd: i32, refusal: u32) {
-    number(fd, refusal);
-    say(fd, b"\n");
-    meaning(fd, refusal);
+pub fn refused(refusal: u32) -> Message
+    ensures { λ r. ⌜ r ≡ message (refusedText refusal) ⌝ }
+    ensures { λ r. ⌜ Counted r ⌝ }
+{
+    let a = add(empty(), b"refused ");
+    let b = add_number(a, refusal);
+    let c = add(b, b"\n");
+    add_meaning(c, refusal)
 }
 
 // `refused N at line L`, a newline and the meaning.
-pub fn refused_at(fd: i32, refusal: u32, line: u32) {
-    number(fd, refusal);
-    say(fd, b" at line ");
-    io::print_decimal(fd, line as u64);
-    say(fd, b"\n");
-    meaning(fd, refusal);
+pub fn refused_at(refusal: u32, line: u32) -> Message
+    ensures { λ r. ⌜ r ≡ message (refusedAtText refusal line) ⌝ }
+    ensures { λ r. ⌜ Counted r ⌝ }
+{
+    let a = add(empty(), b"refused ");
+    let b = add_number(a, refusal);
+    let c = add(b, b" at line ");
+    let d = add_number(c, line);
+    let e = add(d, b"\n");
+    add_meaning(e, refusal)
 }
 
-// `line L: refused N: ` and the meaning, of a solver's line.
-pub fn refused_line(fd: i32, line: u64, refusal: u32) {
-    say(fd, b"line ");
-    io::print_decimal(fd, line);
-    say(fd, b": ");
-    number(fd, refusal);
-    say(fd, b": ");
-    meaning(fd, refusal);
+// `line L: refused N: ` and the meaning, of a solver's line; 24 is a line that is too long.
+pub fn refused_line(line: u32, refusal: u32) -> Message
+    ensures { λ r. ⌜ r ≡ message (refusedLineText line refusal) ⌝ }
+    ensures { λ r. ⌜ Counted r ⌝ }
+{
+    let a = add(empty(), b"line ");
+    let b = add_number(a, line);
+    if refusal == 24 {
+        return add(b, b": too long, not read\n");
+    }
+    let c = add(b, b": refused ");
+    let d = add_number(c, refusal);
+    let e = add(d, b": ");
+    add_meaning(e, refusal)
 }
 
-// `line L: too long, not read`
-pub fn long_line(fd: i32, line: u64) {
-    say(fd, b"line ");
-    io::print_decimal(fd, line);
-    say(fd, b": too long, not read\n");
+// A number in a line.
+pub fn number(k: u32) -> Message
+    ensures { λ r. ⌜ r ≡ message (numberText k) ⌝ }
+    ensures { λ r. ⌜ Counted r ⌝ }
+{
+    add(add_number(empty(), k), b"\n")
+}
+
+// `passes K`
+pub fn passes(k: u32) -> Message
+    ensures { λ r. ⌜ r ≡ message (passesText k) ⌝ }
+    ensures { λ r. ⌜ Counted r ⌝ }
+{
+    let a = add(empty(), b"passes ");
+    let b = add_number(a, k);
+    add(b, b"\n")
+}
+
+// `N entrants, S groups, C constraints`
+pub fn counts(n: u32, s: u32, c: u32) -> Message
+    ensures { λ r. ⌜ r ≡ message (countsText n s c) ⌝ }
+    ensures { λ r. ⌜ Counted r ⌝ }
+{
+    let a = add_number(empty(), n);
+    let b = add(a, b" entrants, ");
+    let d = add_number(b, s);
+    let e = add(d, b" groups, ");
+    let f = add_number(e, c);
+    add(f, b" constraints\n")
+}
+
+// Whether an answer is closed.
+fn closed_or_not(closed: bool) -> Message
+    ensures { λ r. ⌜ r ≡ added (message []) (closedText closed) ⌝ }
+{
+    if closed {
+        return add(empty(), b"closed\n");
+    }
+    add(empty(), b"not closed\n")
+}
+
+// `unsaid K`, where there are any.
+fn add_unsaid(m: Message, k: u32) -> Message
+    ensures { λ r. ⌜ r ≡ addedUnsaid m k ⌝ }
+{
+    if k == 0 {
+        return m;
+    }
+    let a = add(m, b"unsaid ");
+    let b = add_number(a, k);
+    add(b, b"\n")
+}
+
+// The end of an answer: whether it is closed, and how many variables no line said.
+pub fn ending(closed: bool, k: u32) -> Message
+    ensures { λ r. ⌜ r ≡ message (endingText closed k) ⌝ }
+    ensures { λ r. ⌜ Counted r ⌝ }
+{
+    add_unsaid(closed_or_not(closed), k)
+}
+
+// What a buffer of `room` bytes gave: a refusal, or 0 and the text's length.
+pub struct Tried {
+    pub room: u32,
+    pub refusal: u32,
+    pub length: u32,
+}
+
+fn add_result(m: Message, t: Tried) -> Message
+    ensures { λ r. ⌜ r ≡ addedResult m t ⌝ }
+{
+    if t.refusal == 0 {
+        return add_number(m, t.length);
+    }
+    let a = add(m, b"refused ");
+    add_number(a, t.refusal)
+}
+
+// `; in R bytes: ` and what came of it.
+fn add_tried(m: Message, t: Tried) -> Message
+    ensures { λ r. ⌜ r ≡ addedTried m t ⌝ }
+{
+    let a = add(m, b"; in ");
+    let b = add_number(a, t.room);
+    let c = add(b, b" bytes: ");
+    add_result(c, t)
+}
+
+// `block B: K bytes`, and what a buffer of that length and one a byte shorter gave. An empty block has no shorter one.
+pub fn block(b: u32, k: u32, exact: Tried, short: Tried) -> Message
+    ensures { λ r. ⌜ r ≡ message (blockLine b k exact short) ⌝ }
+    ensures { λ r. ⌜ Counted r ⌝ }
+{
+    let a = add(empty(), b"block ");
+    let d = add_number(a, b);
+    let e = add(d, b": ");
+    let f = add_number(e, k);
+    let g = add(f, b" bytes");
+    let h = add_tried(g, exact);
+    if k == 0 {
+        return add(h, b"\n");
+    }
+    let i = add_tried(h, short);
+    add(i, b"\n")
+}
+
+// `block B: a byte past the text changed`
+pub fn changed(b: u32) -> Message
+    ensures { λ r. ⌜ r ≡ message (changedText b) ⌝ }
+    ensures { λ r. ⌜ Counted r ⌝ }
+{
+    let a = add(empty(), b"block ");
+    let d = add_number(a, b);
+    add(d, b": a byte past the text changed\n")
 }

@@ -222,7 +222,7 @@ fn first_group(line: &[u8]) -> usize
 fn group_count(line: &[u8]) -> usize
     ensures { λ r. ⌜ r ≡ groupCount (now (line .entry)) ⌝ }
 {
-    model::member_count(value(line, 1), count_from(line))
+    range::member_count(value(line, 1), count_from(line))
 }
 
 // The numbers of a constraint line's k groups, then zeros.
@@ -262,7 +262,7 @@ fn constraint_refusal(s: u32, line: &[u8]) -> u32
     if value(line, 0) != 3 {
         return 5;
     }
-    if !model::code_in_range(value(line, 1), count_from(line)) {
+    if !range::code_in_range(value(line, 1), count_from(line)) {
         return 6;
     }
     let k = group_count(line);
@@ -270,10 +270,10 @@ fn constraint_refusal(s: u32, line: &[u8]) -> u32
         return 6;
     }
     let groups = read_numbers(line, k);
-    if !model::all_between(groups, k, s) {
+    if !range::all_between(groups, k, s) {
         return 7;
     }
-    if !model::all_distinct(groups, k) {
+    if !range::all_distinct(groups, k) {
         return 9;
     }
     0

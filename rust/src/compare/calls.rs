@@ -1,9 +1,9 @@
 //! The calls of the C interface, and this crate's answer to each.
 use crate::encode::Encoding;
-use crate::model::GROUPS;
+use crate::model::{Model, GROUPS};
 use crate::refusal::{CONTRADICTION, SHORT_BUFFER};
 use crate::settle::{settle, Settled};
-use crate::sheet::read;
+use crate::sheet::{read, write};
 use crate::words::from_words;
 use crate::{answer, close, listing};
 
@@ -25,6 +25,8 @@ pub trait Calls {
     fn settle_model(&self, words: &[u64], table: &mut [u64]) -> u64;
     fn block_model(&self, words: &[u64], block: u32, buffer: &mut [u8]) -> u64;
     fn close_model(&self, words: &[u64], closed: u32, marks: &[u8], groups: &mut [u64]) -> u32;
+    /// the sheet of a model as words: refusal * 2^32 + length
+    fn write_model(&self, words: &[u64], buffer: &mut [u8]) -> u64;
 }
 
 pub struct Counterpart;
@@ -55,6 +57,12 @@ fn block_number(settled: Result<Settled, u32>, block: u32, buffer: &mut [u8]) ->
         Ok(length) => length as u64,
         Err(number) => u64::from(number) << 32,
     }
+}
+
+fn write_number(model: Result<Model, u32>, buffer: &mut [u8]) -> Result<u64, u32> {
+    let sheet = write(&model?);
+    buffer.get_mut(..sheet.len()).ok_or(SHORT_BUFFER)?.copy_from_slice(&sheet);
+    Ok(sheet.len() as u64)
 }
 
 fn close_number(settled: Result<Settled, u32>, closed: u32, marks: &[u8], groups: &mut [u64]) -> Result<(), u32> {
@@ -109,5 +117,9 @@ impl Calls for Counterpart {
 
     fn close_model(&self, words: &[u64], closed: u32, marks: &[u8], groups: &mut [u64]) -> u32 {
         close_number(given(words), closed, marks, groups).err().unwrap_or(0)
+    }
+
+    fn write_model(&self, words: &[u64], buffer: &mut [u8]) -> u64 {
+        write_number(from_words(words), buffer).unwrap_or_else(|number| u64::from(number) << 32)
     }
 }

@@ -1,4 +1,4 @@
-//! Models as words, whole and damaged in one word, for settling, a block and closing.
+//! Models as words, whole and damaged in one word, for settling, a block, closing and the model's sheet.
 use super::answers;
 use super::calls::{given, Calls, Counterpart};
 use super::case::{junk, junk_words, Kind, Outcome};
@@ -33,6 +33,10 @@ enum Call {
         closed: bool,
         marks: Vec<u8>,
     },
+    /// Bytes of the buffer beyond the sheet's length, or missing.
+    Write {
+        spare: isize,
+    },
 }
 
 /// The kinds of the cases made here, in the order of the report.
@@ -61,6 +65,10 @@ pub const KINDS: &[Kind] = &[
     "model: 20 of closing",
     "model: 22 of closing",
     "model: 26, 27 or 28 of closing",
+    "model: sheet",
+    "model: sheet in a buffer exactly long enough",
+    "model: 20 of a sheet",
+    "model: 24 of a sheet",
 ];
 
 /// The kind of a damage, where the model is refused or stays the same.
@@ -98,6 +106,7 @@ impl ModelCase {
             Call::Settle { room } => self.check_settle(*room, other, outcome),
             Call::Block { block, spare } => self.check_block(*block, *spare, other, outcome),
             Call::Close { closed, marks } => self.check_close(*closed, marks, other, outcome),
+            Call::Write { spare } => self.check_write(*spare, other, outcome),
         }
     }
 
@@ -145,6 +154,21 @@ impl ModelCase {
         outcome.compare_bytes("groups", &ours, &theirs);
     }
 
+    fn check_write(&self, spare: isize, other: &dyn Calls, outcome: &mut Outcome) {
+        let length = from_words(&self.words).map_or(0, |model| sheet::write(&model).len());
+        let mut ours = junk(length.saturating_add_signed(spare));
+        let mut theirs = ours.clone();
+        let answer = Counterpart.write_model(&self.words, &mut ours);
+        outcome.note(match (answer >> 32) as u32 {
+            0 if spare == 0 => "model: sheet in a buffer exactly long enough",
+            0 => "model: sheet",
+            OUT_OF_RANGE => "model: 20 of a sheet",
+            _ => "model: 24 of a sheet",
+        });
+        outcome.compare("refusal * 2^32 + length", answer, other.write_model(&self.words, &mut theirs));
+        outcome.compare_bytes("buffer", &ours, &theirs);
+    }
+
     /// The call, the head and the words that are not 0.
     pub fn show(&self) -> String {
         let words = self.words.iter().enumerate().filter(|(_, &word)| word != 0).map(|(place, word)| format!(" {place}:{word}"));
@@ -164,9 +188,10 @@ pub fn case(random: &mut Random, sheet: &[u8], draw: Option<&[u64]>) -> Option<M
     if let Some(place) = damaged {
         words[place] = damage(random, words[place]);
     }
-    let call = match random.below(3) {
+    let call = match random.below(4) {
         0 => Call::Settle { room: (4 * model.groups.len()).saturating_add_signed(random.pick(&[0, 0, -1, 5])) },
         1 => Call::Block { block: random.below(model.groups.len() + model.constraints.len() + 2) as u32, spare: random.pick(&[0, 0, -1, 9]) },
+        2 => Call::Write { spare: random.pick(&[0, 0, -1, 9]) },
         _ => closing(random, &words, draw),
     };
     Some(ModelCase { words, damaged, call })

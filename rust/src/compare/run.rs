@@ -205,6 +205,7 @@ mod tests {
         settle_model: fn(&[u64], &mut [u64]) -> u64,
         block_model: fn(&[u64], u32, &mut [u8]) -> u64,
         close_model: fn(&[u64], u32, &[u8], &mut [u64]) -> u32,
+        write_model: fn(&[u64], &mut [u8]) -> u64,
     }
 
     const SOUND: Broken = Broken {
@@ -217,6 +218,7 @@ mod tests {
         settle_model: |words, table| Counterpart.settle_model(words, table),
         block_model: |words, block, buffer| Counterpart.block_model(words, block, buffer),
         close_model: |words, closed, marks, groups| Counterpart.close_model(words, closed, marks, groups),
+        write_model: |words, buffer| Counterpart.write_model(words, buffer),
     };
 
     impl Calls for Broken {
@@ -246,6 +248,9 @@ mod tests {
         }
         fn close_model(&self, words: &[u64], closed: u32, marks: &[u8], groups: &mut [u64]) -> u32 {
             (self.close_model)(words, closed, marks, groups)
+        }
+        fn write_model(&self, words: &[u64], buffer: &mut [u8]) -> u64 {
+            (self.write_model)(words, buffer)
         }
     }
 
@@ -347,5 +352,17 @@ mod tests {
             answer => answer,
         };
         is_caught(Broken { block_model, ..SOUND }, "model: 22 of a block", "of a model");
+    }
+
+    #[test]
+    fn a_sheet_with_another_last_digit_is_caught() {
+        let write_model = |words: &[u64], buffer: &mut [u8]| {
+            let answer = Counterpart.write_model(words, buffer);
+            if let Some(byte) = (answer as usize).checked_sub(2).and_then(|last| buffer.get_mut(last)) {
+                *byte ^= 1;
+            }
+            answer
+        };
+        is_caught(Broken { write_model, ..SOUND }, "model: sheet", "buffer at");
     }
 }

@@ -7,8 +7,9 @@ use lib.ListN.{length}
 use Rattle.model.specs.declared.Constraint.{Constraint}
 use Rattle.model.specs.Model.{zeroGroup}
 use Rattle.numbering.proofs.Models.{first-is}
-use Rattle.cnf.proofs.Writes.{same-text}
-use Rattle.cnf.proofs.Settled.{groups-few, entrants-few, constraints-few, table-groups, header-block, here-settled, here-among, here-text, here-in-range, here-block, place-in-model}
+use Rattle.text.proofs.Writes.{same-text}
+use Rattle.counts.proofs.Settled.{groups-few, entrants-few, constraints-few, table-groups}
+use Rattle.cnf.proofs.Settled.{header-block, here-settled, here-among, here-text, here-in-range, here-block, place-in-model}
 use Rattle.cnf.proofs.put_block.Statement.{statement}
 use Rattle.cnf.proofs.put_block.Tie as tie
 

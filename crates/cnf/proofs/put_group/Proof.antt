@@ -6,8 +6,9 @@ use borrow.Author.Needs.{needs}
 use lib.ListN.{length}
 use Rattle.model.specs.Totalizer.{treeOutputCount}
 use Rattle.numbering.proofs.Totalizers.{totalizer-parts, some-outputs}
-use Rattle.cnf.proofs.Writes.{done, same-text}
-use Rattle.cnf.proofs.Groups.{none-text, low-few, high-few, some-open, totalizer-text}
+use Rattle.text.proofs.Writes.{done, same-text}
+use Rattle.cnf.proofs.Groups.{none-text, some-open, totalizer-text}
+use Rattle.counts.proofs.Groups.{low-few, high-few}
 use Rattle.cnf.proofs.put_group.Statement.{statement}
 use Rattle.cnf.proofs.put_group.Tie as tie
 

@@ -1,5 +1,5 @@
 -- `put_group` stores four words, one after the other. Assumes nothing.
-use Rattle.exports.proofs.Words.{four}
+use Rattle.words.proofs.Words.{four}
 use native.Mathlib.Omega.{arith}
 use lib.ListN.{length-set}
 use borrow.Author.Needs.{needs}

@@ -3,7 +3,7 @@ use mathlib.Core.Path.{refl}
 use Prim.Native.Nat.{_-_}
 use native.Mathlib.Omega.{arith}
 use borrow.Author.Needs.{needs}
-use Rattle.exports.proofs.Words.{Laying, laying-length, laying-next, laying-end}
+use Rattle.words.proofs.Words.{Laying, laying-length, laying-next, laying-end}
 use Rattle.exports.proofs.put_groups.Statement.{statement}
 use Rattle.exports.proofs.put_groups.Tie as tie
 

@@ -4,7 +4,7 @@ use mathlib.Core.Path.{refl}
 use Prim.Native.Nat.{_-_}
 use native.Mathlib.Omega.{arith}
 use borrow.Author.Needs.{needs}
-use Rattle.exports.proofs.Words.{Copying, copying-length, copying-next, copying-end}
+use Rattle.words.proofs.Words.{Copying, copying-length, copying-next, copying-end}
 use Rattle.exports.proofs.put_words.Statement.{statement}
 use Rattle.exports.proofs.put_words.Tie as tie
 

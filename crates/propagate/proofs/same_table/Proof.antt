@@ -68,12 +68,12 @@ mul-t18-2 c = omega arith
 element-copy-out-t21-2 : tie.Need-element-copy-out-t21-2 Inv-loop μ-loop
 element-copy-out-t21-2 c = omega arith
 
-same-group-requires : tie.Need-same-group-requires Inv-loop μ-loop
-same-group-requires c κs = search needs
+is-same-requires : tie.Need-is-same-requires Inv-loop μ-loop
+is-same-requires c κs = search needs
 
 returns : tie.Need-returns Inv-loop μ-loop
 unfolding groupsIn
-returns c = same-stops (groupsIn ((c .before .before .before .before .before .before .before .before .before .before .before .before .args .t1))) (groupsIn ((c .before .before .before .before .before .before .before .before .before .before .before .before .args .t2))) ((c .before .before .before .before .before .before .before .before .before .before .before .before .args .s)) ((c .before .before .before .before .before .before .before .before .before .before .before .loop .i)) _ _ ((c .before .before .before .before .before .before .before .before .before .before .before .before .pre .0)) ((c .before .before .before .before .before .before .before .before .before .before .before .before .pre .1 .0)) ((c .before .before .before .before .before .before .before .before .before .before .before .before .pre .1 .1)) ((c .before .before .before .before .before .before .before .before .before .before .before .loop .inv .1)) (omega arith) (sym (zipped-at ((c .before .before .before .before .before .before .before .before .before .before .before .before .args .t1) .fixed) ((c .before .before .before .before .before .before .before .before .before .before .before .before .args .t1) .possible) ((c .before .before .before .before .before .before .before .before .before .before .before .before .args .t1) .low) ((c .before .before .before .before .before .before .before .before .before .before .before .before .args .t1) .high) ((c .before .before .before .before .before .before .before .before .before .before .before .loop .i)) (omega (arith, (c .before .before .before .before .before .before .before .before .before .before .before .before .pre .0), (c .before .before .before .before .before .before .before .before .before .before .before .before .pre .1 .1))))) (sym (zipped-at ((c .before .before .before .before .before .before .before .before .before .before .before .before .args .t2) .fixed) ((c .before .before .before .before .before .before .before .before .before .before .before .before .args .t2) .possible) ((c .before .before .before .before .before .before .before .before .before .before .before .before .args .t2) .low) ((c .before .before .before .before .before .before .before .before .before .before .before .before .args .t2) .high) ((c .before .before .before .before .before .before .before .before .before .before .before .loop .i)) (omega (arith, (c .before .before .before .before .before .before .before .before .before .before .before .before .pre .1 .0), (c .before .before .before .before .before .before .before .before .before .before .before .before .pre .1 .1))))) (sym ((c .before .same-group .ensures)) ∙ not-true _ ((c .if1 .taken)))
+returns c = same-stops (groupsIn ((c .before .before .before .before .before .before .before .before .before .before .before .before .args .t1))) (groupsIn ((c .before .before .before .before .before .before .before .before .before .before .before .before .args .t2))) ((c .before .before .before .before .before .before .before .before .before .before .before .before .args .s)) ((c .before .before .before .before .before .before .before .before .before .before .before .loop .i)) _ _ ((c .before .before .before .before .before .before .before .before .before .before .before .before .pre .0)) ((c .before .before .before .before .before .before .before .before .before .before .before .before .pre .1 .0)) ((c .before .before .before .before .before .before .before .before .before .before .before .before .pre .1 .1)) ((c .before .before .before .before .before .before .before .before .before .before .before .loop .inv .1)) (omega arith) (sym (zipped-at ((c .before .before .before .before .before .before .before .before .before .before .before .before .args .t1) .fixed) ((c .before .before .before .before .before .before .before .before .before .before .before .before .args .t1) .possible) ((c .before .before .before .before .before .before .before .before .before .before .before .before .args .t1) .low) ((c .before .before .before .before .before .before .before .before .before .before .before .before .args .t1) .high) ((c .before .before .before .before .before .before .before .before .before .before .before .loop .i)) (omega (arith, (c .before .before .before .before .before .before .before .before .before .before .before .before .pre .0), (c .before .before .before .before .before .before .before .before .before .before .before .before .pre .1 .1))))) (sym (zipped-at ((c .before .before .before .before .before .before .before .before .before .before .before .before .args .t2) .fixed) ((c .before .before .before .before .before .before .before .before .before .before .before .before .args .t2) .possible) ((c .before .before .before .before .before .before .before .before .before .before .before .before .args .t2) .low) ((c .before .before .before .before .before .before .before .before .before .before .before .before .args .t2) .high) ((c .before .before .before .before .before .before .before .before .before .before .before .loop .i)) (omega (arith, (c .before .before .before .before .before .before .before .before .before .before .before .before .pre .1 .0), (c .before .before .before .before .before .before .before .before .before .before .before .before .pre .1 .1))))) (sym ((c .before .is-same .ensures)) ∙ not-true _ ((c .if1 .taken)))
 
 add-i : tie.Need-add-i Inv-loop μ-loop
 add-i c = omega arith
@@ -83,7 +83,7 @@ loop-less c = omega arith
 
 loop-again : tie.Need-loop-again Inv-loop μ-loop
 unfolding groupsIn
-loop-again c = (omega arith, same-goes (groupsIn ((c .before .before .before .before .before .before .before .before .before .before .before .before .args .t1))) (groupsIn ((c .before .before .before .before .before .before .before .before .before .before .before .before .args .t2))) ((c .before .before .before .before .before .before .before .before .before .before .before .before .args .s)) ((c .before .before .before .before .before .before .before .before .before .before .before .loop .i)) _ _ ((c .before .before .before .before .before .before .before .before .before .before .before .before .pre .0)) ((c .before .before .before .before .before .before .before .before .before .before .before .before .pre .1 .0)) ((c .before .before .before .before .before .before .before .before .before .before .before .before .pre .1 .1)) ((c .before .before .before .before .before .before .before .before .before .before .before .loop .inv .1)) (omega arith) (sym (zipped-at ((c .before .before .before .before .before .before .before .before .before .before .before .before .args .t1) .fixed) ((c .before .before .before .before .before .before .before .before .before .before .before .before .args .t1) .possible) ((c .before .before .before .before .before .before .before .before .before .before .before .before .args .t1) .low) ((c .before .before .before .before .before .before .before .before .before .before .before .before .args .t1) .high) ((c .before .before .before .before .before .before .before .before .before .before .before .loop .i)) (omega (arith, (c .before .before .before .before .before .before .before .before .before .before .before .before .pre .0), (c .before .before .before .before .before .before .before .before .before .before .before .before .pre .1 .1))))) (sym (zipped-at ((c .before .before .before .before .before .before .before .before .before .before .before .before .args .t2) .fixed) ((c .before .before .before .before .before .before .before .before .before .before .before .before .args .t2) .possible) ((c .before .before .before .before .before .before .before .before .before .before .before .before .args .t2) .low) ((c .before .before .before .before .before .before .before .before .before .before .before .before .args .t2) .high) ((c .before .before .before .before .before .before .before .before .before .before .before .loop .i)) (omega (arith, (c .before .before .before .before .before .before .before .before .before .before .before .before .pre .1 .0), (c .before .before .before .before .before .before .before .before .before .before .before .before .pre .1 .1))))) (sym ((c .before .same-group .ensures)) ∙ not-false _ ((c .if1 .left))))
+loop-again c = (omega arith, same-goes (groupsIn ((c .before .before .before .before .before .before .before .before .before .before .before .before .args .t1))) (groupsIn ((c .before .before .before .before .before .before .before .before .before .before .before .before .args .t2))) ((c .before .before .before .before .before .before .before .before .before .before .before .before .args .s)) ((c .before .before .before .before .before .before .before .before .before .before .before .loop .i)) _ _ ((c .before .before .before .before .before .before .before .before .before .before .before .before .pre .0)) ((c .before .before .before .before .before .before .before .before .before .before .before .before .pre .1 .0)) ((c .before .before .before .before .before .before .before .before .before .before .before .before .pre .1 .1)) ((c .before .before .before .before .before .before .before .before .before .before .before .loop .inv .1)) (omega arith) (sym (zipped-at ((c .before .before .before .before .before .before .before .before .before .before .before .before .args .t1) .fixed) ((c .before .before .before .before .before .before .before .before .before .before .before .before .args .t1) .possible) ((c .before .before .before .before .before .before .before .before .before .before .before .before .args .t1) .low) ((c .before .before .before .before .before .before .before .before .before .before .before .before .args .t1) .high) ((c .before .before .before .before .before .before .before .before .before .before .before .loop .i)) (omega (arith, (c .before .before .before .before .before .before .before .before .before .before .before .before .pre .0), (c .before .before .before .before .before .before .before .before .before .before .before .before .pre .1 .1))))) (sym (zipped-at ((c .before .before .before .before .before .before .before .before .before .before .before .before .args .t2) .fixed) ((c .before .before .before .before .before .before .before .before .before .before .before .before .args .t2) .possible) ((c .before .before .before .before .before .before .before .before .before .before .before .before .args .t2) .low) ((c .before .before .before .before .before .before .before .before .before .before .before .before .args .t2) .high) ((c .before .before .before .before .before .before .before .before .before .before .before .loop .i)) (omega (arith, (c .before .before .before .before .before .before .before .before .before .before .before .before .pre .1 .0), (c .before .before .before .before .before .before .before .before .before .before .before .before .pre .1 .1))))) (sym ((c .before .is-same .ensures)) ∙ not-false _ ((c .if1 .left))))
 
 returns-2 : tie.Need-returns-2 Inv-loop μ-loop
 returns-2 c = same-end (groupsIn ((c .before .before .args .t1))) (groupsIn ((c .before .before .args .t2))) ((c .before .before .args .s)) ((c .before .loop .i)) (omega arith) ((c .before .loop .inv .1))
@@ -111,7 +111,7 @@ same-table-spec =
     element-copy-out-t25-2
     mul-t18-2
     element-copy-out-t21-2
-    same-group-requires
+    is-same-requires
     returns
     add-i
     loop-less

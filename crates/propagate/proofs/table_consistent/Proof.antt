@@ -47,12 +47,12 @@ mul-t19 c = omega arith
 element-copy-out-t22 : tie.Need-element-copy-out-t22 Inv-loop μ-loop
 element-copy-out-t22 c = omega arith
 
-group-consistent-requires : tie.Need-group-consistent-requires Inv-loop μ-loop
-group-consistent-requires c κs = search needs
+is-consistent-requires : tie.Need-is-consistent-requires Inv-loop μ-loop
+is-consistent-requires c κs = search needs
 
 returns : tie.Need-returns Inv-loop μ-loop
 unfolding consistent groupsIn
-returns c = every-stops groupConsistent (groupsIn ((c .before .before .before .before .before .before .before .before .args .t1))) ((c .before .before .before .before .before .before .before .before .args .s)) ((c .before .before .before .before .before .before .before .loop .i)) ((c .before .before .before .before .before .before .before .loop .inv .1)) (omega (arith, (c .before .before .before .before .before .before .before .before .pre .0), (c .before .before .before .before .before .before .before .before .pre .1))) zeroGroup (ap groupConsistent (zipped-at ((c .before .before .before .before .before .before .before .before .args .t1) .fixed) ((c .before .before .before .before .before .before .before .before .args .t1) .possible) ((c .before .before .before .before .before .before .before .before .args .t1) .low) ((c .before .before .before .before .before .before .before .before .args .t1) .high) ((c .before .before .before .before .before .before .before .loop .i)) (omega (arith, (c .before .before .before .before .before .before .before .before .pre .0), (c .before .before .before .before .before .before .before .before .pre .1)))) ∙ sym ((c .before .group-consistent .ensures)) ∙ not-true _ ((c .if1 .taken)))
+returns c = every-stops groupConsistent (groupsIn ((c .before .before .before .before .before .before .before .before .args .t1))) ((c .before .before .before .before .before .before .before .before .args .s)) ((c .before .before .before .before .before .before .before .loop .i)) ((c .before .before .before .before .before .before .before .loop .inv .1)) (omega (arith, (c .before .before .before .before .before .before .before .before .pre .0), (c .before .before .before .before .before .before .before .before .pre .1))) zeroGroup (ap groupConsistent (zipped-at ((c .before .before .before .before .before .before .before .before .args .t1) .fixed) ((c .before .before .before .before .before .before .before .before .args .t1) .possible) ((c .before .before .before .before .before .before .before .before .args .t1) .low) ((c .before .before .before .before .before .before .before .before .args .t1) .high) ((c .before .before .before .before .before .before .before .loop .i)) (omega (arith, (c .before .before .before .before .before .before .before .before .pre .0), (c .before .before .before .before .before .before .before .before .pre .1)))) ∙ sym ((c .before .is-consistent .ensures)) ∙ not-true _ ((c .if1 .taken)))
 
 add-i : tie.Need-add-i Inv-loop μ-loop
 add-i c = omega arith
@@ -62,7 +62,7 @@ loop-less c = omega arith
 
 loop-again : tie.Need-loop-again Inv-loop μ-loop
 unfolding groupsIn
-loop-again c = (omega arith, every-goes groupConsistent (groupsIn ((c .before .before .before .before .before .before .before .before .args .t1))) ((c .before .before .before .before .before .before .before .before .args .s)) ((c .before .before .before .before .before .before .before .loop .i)) ((c .before .before .before .before .before .before .before .loop .inv .1)) (omega (arith, (c .before .before .before .before .before .before .before .before .pre .0), (c .before .before .before .before .before .before .before .before .pre .1))) zeroGroup (ap groupConsistent (zipped-at ((c .before .before .before .before .before .before .before .before .args .t1) .fixed) ((c .before .before .before .before .before .before .before .before .args .t1) .possible) ((c .before .before .before .before .before .before .before .before .args .t1) .low) ((c .before .before .before .before .before .before .before .before .args .t1) .high) ((c .before .before .before .before .before .before .before .loop .i)) (omega (arith, (c .before .before .before .before .before .before .before .before .pre .0), (c .before .before .before .before .before .before .before .before .pre .1)))) ∙ sym ((c .before .group-consistent .ensures)) ∙ not-false _ ((c .if1 .left))))
+loop-again c = (omega arith, every-goes groupConsistent (groupsIn ((c .before .before .before .before .before .before .before .before .args .t1))) ((c .before .before .before .before .before .before .before .before .args .s)) ((c .before .before .before .before .before .before .before .loop .i)) ((c .before .before .before .before .before .before .before .loop .inv .1)) (omega (arith, (c .before .before .before .before .before .before .before .before .pre .0), (c .before .before .before .before .before .before .before .before .pre .1))) zeroGroup (ap groupConsistent (zipped-at ((c .before .before .before .before .before .before .before .before .args .t1) .fixed) ((c .before .before .before .before .before .before .before .before .args .t1) .possible) ((c .before .before .before .before .before .before .before .before .args .t1) .low) ((c .before .before .before .before .before .before .before .before .args .t1) .high) ((c .before .before .before .before .before .before .before .loop .i)) (omega (arith, (c .before .before .before .before .before .before .before .before .pre .0), (c .before .before .before .before .before .before .before .before .pre .1)))) ∙ sym ((c .before .is-consistent .ensures)) ∙ not-false _ ((c .if1 .left))))
 
 returns-2 : tie.Need-returns-2 Inv-loop μ-loop
 unfolding consistent groupsIn
@@ -83,7 +83,7 @@ table-consistent-spec =
     element-copy-out-t18
     mul-t19
     element-copy-out-t22
-    group-consistent-requires
+    is-consistent-requires
     returns
     add-i
     loop-less

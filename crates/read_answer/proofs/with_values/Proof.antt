@@ -1,6 +1,6 @@
 -- `with_values` lends as many values as there are variables. Assumes nothing.
-use lib.ListN.{length-take}
 use native.Mathlib.Omega.{arith}
+use lib.ListN.{length-take}
 use borrow.Author.Needs.{needs}
 use Rattle.read_answer.proofs.with_values.Statement.{statement}
 use Rattle.read_answer.proofs.with_values.Tie as tie
@@ -11,11 +11,11 @@ large-buffer-requires c κs = search needs
 array-borrow-prefix-values : tie.Need-array-borrow-prefix-values
 array-borrow-prefix-values c = search needs
 
-slice-aggregate-answer : tie.Need-slice-aggregate-answer
-slice-aggregate-answer c = simp length-take (omega (arith, (c .before .large-buffer .ensures)))
+slice-aggregate-print-answer : tie.Need-slice-aggregate-print-answer
+slice-aggregate-print-answer c = simp length-take (omega (arith, c .before .large-buffer .ensures))
 
-answer-requires : tie.Need-answer-requires
-answer-requires c κs = search needs
+print-answer-requires : tie.Need-print-answer-requires
+print-answer-requires c κs = simp length-take (omega arith)
 
 returns : tie.Need-returns
 returns c = search needs
@@ -26,6 +26,6 @@ with-values-spec =
     (tie.spec
     large-buffer-requires
     array-borrow-prefix-values
-    slice-aggregate-answer
-    answer-requires
+    slice-aggregate-print-answer
+    print-answer-requires
     returns)

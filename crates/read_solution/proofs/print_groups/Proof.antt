@@ -1,60 +1,53 @@
--- `print_groups` stays in bounds and ends. Assumes nothing.
-use Prim.Native.Nat.{_-_}
+-- `print_groups` writes the text that it was given. Assumes nothing.
+use mathlib.Core.Path.{sym, _∙_}
 use native.Mathlib.Omega.{arith}
-use Rattle.model.specs.Limits.{limits}
+use lib.ListN.{length-take}
+use Rattle.answer.proofs.Groups.{groups-inside}
 use borrow.Author.Needs.{needs}
 use Rattle.read_solution.proofs.print_groups.Statement.{statement}
 use Rattle.read_solution.proofs.print_groups.Tie as tie
 
-abbrev Inv-loop : tie.InvT-loop
-Inv-loop s words i₀ i = Unit {0}
+large-buffer-requires : tie.Need-large-buffer-requires
+large-buffer-requires c κs = search needs
 
-abbrev μ-loop : tie.MeasureT-loop
-μ-loop s words i₀ i = limits .groups - i
+slice-aggregate-write-groups : tie.Need-slice-aggregate-write-groups
+slice-aggregate-write-groups c = search needs
 
-loop-holds : tie.Need-loop-holds Inv-loop μ-loop
-loop-holds c = tt
+write-groups-requires : tie.Need-write-groups-requires
+write-groups-requires c κs = search needs
 
-returns : tie.Need-returns Inv-loop μ-loop
-returns c = tt
+enum-known-n : tie.Need-enum-known-n
+enum-known-n c = search needs
 
-add-print-group : tie.Need-add-print-group Inv-loop μ-loop
-add-print-group c = omega arith
+enum-told : tie.Need-enum-told
+enum-told c = search needs
 
-mul-print-group : tie.Need-mul-print-group Inv-loop μ-loop
-mul-print-group c = omega arith
+returns : tie.Need-returns
+returns c = search needs
 
-array-read-print-group : tie.Need-array-read-print-group Inv-loop μ-loop
-array-read-print-group c = omega (arith, (c .before .before .before .good))
+array-share-prefix-text : tie.Need-array-share-prefix-text
+array-share-prefix-text c = omega (arith, groups-inside _ _ _ (c .before .n .given .0 .0) (sym (c .before .n .given .1) ∙ c .before .before .before .before .write-groups .ensures .0), c .before .before .before .before .write-groups .kept .1 .1 .0)
 
-print-group-requires : tie.Need-print-group-requires Inv-loop μ-loop
-print-group-requires c κs = search needs
+slice-aggregate-write : tie.Need-slice-aggregate-write
+slice-aggregate-write c = simp length-take (omega (arith, groups-inside _ _ _ (c .before .before .n .given .0 .0) (sym (c .before .before .n .given .1) ∙ c .before .before .before .before .before .write-groups .ensures .0), c .before .before .before .before .before .write-groups .kept .1 .1 .0))
 
-add-i : tie.Need-add-i Inv-loop μ-loop
-add-i c = omega arith
+write-requires : tie.Need-write-requires
+write-requires c κs = search needs
 
-loop-less : tie.Need-loop-less Inv-loop μ-loop
-loop-less c = omega arith
-
-loop-again : tie.Need-loop-again Inv-loop μ-loop
-loop-again c = tt
-
-returns-2 : tie.Need-returns-2 Inv-loop μ-loop
-returns-2 c = tt
+returns-2 : tie.Need-returns-2
+returns-2 c = search needs
 
 pub print-groups-spec : {M : Type 1} → statement M
 print-groups-spec =
     tie.close
     (tie.spec
-    Inv-loop
-    μ-loop
-    loop-holds
+    large-buffer-requires
+    slice-aggregate-write-groups
+    write-groups-requires
+    enum-known-n
+    enum-told
     returns
-    add-print-group
-    mul-print-group
-    array-read-print-group
-    print-group-requires
-    add-i
-    loop-less
-    loop-again
+    array-share-prefix-text
+    slice-aggregate-write
+    write-requires
     returns-2)

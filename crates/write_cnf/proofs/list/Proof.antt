@@ -1,5 +1,5 @@
 -- `list` ends: each run moves on. What it writes is compared with stored output. Assumes nothing.
-use mathlib.Core.Path.{_≡_, refl, sym, _∙_}
+use mathlib.Core.Path.{_≡_, sym, _∙_}
 use mathlib.Core.Bool.{Bool, true, false, cond}
 use Prim.Native.Nat.{ℕ, _+_, _-_, _≤_}
 use native.Mathlib.Omega.{arith}
@@ -11,10 +11,10 @@ use Rattle.write_cnf.proofs.list.Statement.{statement}
 use Rattle.write_cnf.proofs.list.Tie as tie
 
 abbrev Inv-loop : tie.InvT-loop
-Inv-loop m piece₀ last b₀ t piece b = length piece ≡ 1048576
+Inv-loop m piece₀ last b₀ piece b = length piece ≡ 1048576
 
 abbrev μ-loop : tie.MeasureT-loop
-μ-loop m piece₀ last b₀ t piece b = last + 1 - b
+μ-loop m piece₀ last b₀ piece b = last + 1 - b
 
 -- the last block of a model in range, and 0, are no more than its blocks
 no-more : (x : Bool) (k : ℕ) → cond x k 0 ≤ k
@@ -47,19 +47,13 @@ array-share-prefix-piece c =
     let w = c .before .before .before .write-blocks in
     omega (arith, run-inside _ _ _ _ _ (w .ensures .0) (w .ensures .1 .0) (w .kept .1 .1 .0), w .kept .1 .1 .0)
 
-slice-aggregate-write-all : tie.Need-slice-aggregate-write-all Inv-loop μ-loop
-slice-aggregate-write-all c =
+slice-aggregate-write : tie.Need-slice-aggregate-write Inv-loop μ-loop
+slice-aggregate-write c =
     let w = c .before .before .before .before .write-blocks in
     omega (arith, length-take (w .result .length) (w .last .1 .1 .0), run-inside _ _ _ _ _ (w .ensures .0) (w .ensures .1 .0) (w .kept .1 .1 .0), w .kept .1 .1 .0)
 
-write-all-requires : tie.Need-write-all-requires Inv-loop μ-loop
-write-all-requires c κs = tt
-
-slice-aggregate-write-all-2 : tie.Need-slice-aggregate-write-all-2 Inv-loop μ-loop
-slice-aggregate-write-all-2 c = refl
-
-write-all-requires-2 : tie.Need-write-all-requires-2 Inv-loop μ-loop
-write-all-requires-2 c κs = tt
+write-requires : tie.Need-write-requires Inv-loop μ-loop
+write-requires c κs = tt
 
 returns-2 : tie.Need-returns-2 Inv-loop μ-loop
 returns-2 c = tt
@@ -92,10 +86,8 @@ list-spec =
     refuse-requires
     returns
     array-share-prefix-piece
-    slice-aggregate-write-all
-    write-all-requires
-    slice-aggregate-write-all-2
-    write-all-requires-2
+    slice-aggregate-write
+    write-requires
     returns-2
     loop-less
     loop-again

@@ -1,0 +1,4 @@
+pub mod Writing
+pub mod Groups
+pub mod Values
+mod Examples

@@ -1,0 +1,125 @@
+-- Writes of the values' text, and its length. Assumes nothing.
+use Prim.Native.Nat.{ℕ, suc, _+_, _≤_, _<_}
+use mathlib.Core.Path.{_≡_, refl, ap, _∙_}
+use mathlib.Core.Bool.{Bool, true, false, cond}
+use mathlib.Core.List.{List, [], _∷_, _++_}
+use native.Mathlib.Omega.{arith}
+use borrow.Author.Tests.{eq-eqb, ne-eqb, lt-ltb, le-ltb}
+use lib.Dec.{ltb, eqb}
+use lib.ListN.{length, getD, take, drop, length-append, drop-of-length-le}
+use Rattle.model.specs.declared.Written.the-variants.{Bytes, Refused}
+use Rattle.model.specs.Lists.{those}
+use Rattle.model.specs.Assignment.{isSaid}
+use Rattle.model.proofs.Loops.{drop-next}
+use Rattle.model.specs.Text.{decimal}
+use Rattle.encoding_laws.proofs.Decimal.{decimal-bound}
+use Rattle.text.specs.Put.{Wrote, placed, placeAfter}
+use Rattle.text.proofs.Writes.{no-room, then, kept, front}
+use Rattle.answer.specs.Values.{valueText, valueAt, saidText, valuesText, writtenValues, valuesBuffer, unsaidCount}
+use Rattle.answer.proofs.Writing.{then-put, each-length, fits}
+
+-- ---- a value
+
+module _ (x v : ℕ) where
+  pub value-true : x ≡ 1 → valueText x v ≡ (32 ∷ []) ++ decimal v
+  unfolding valueText
+  value-true e = rw (eq-eqb x 1 e)
+
+  pub value-false : (x ≡ 1 → ⊥) → x ≡ 2 → valueText x v ≡ (32 ∷ 45 ∷ []) ++ decimal v
+  unfolding valueText
+  value-false n e = rw (ne-eqb x 1 n, eq-eqb x 2 e)
+
+  pub value-none : (x ≡ 1 → ⊥) → (x ≡ 2 → ⊥) → valueText x v ≡ []
+  unfolding valueText
+  value-none n m = rw (ne-eqb x 1 n, ne-eqb x 2 m)
+
+  value-length : v ≤ 65536 → length (valueText x v) ≤ 7
+  unfolding valueText
+  value-length h = go (eqb x 1) (eqb x 2)
+    where
+      go : (a b : Bool) → length (cond a ((32 ∷ []) ++ decimal v) (cond b ((32 ∷ 45 ∷ []) ++ decimal v) [])) ≤ 7
+      go true b = omega (arith, decimal-bound 4 v (omega arith))
+      go false true = omega (arith, decimal-bound 4 v (omega arith))
+      go false false = omega arith
+
+-- ---- the line
+
+module _ (values : List ℕ) where
+  said-length : length values ≤ 65536 → length (saidText values) ≤ 458752
+  unfolding saidText
+  said-length h =
+      omega (arith, each-length (valueAt values) 7 (length values) (λ i lt. value-length (getD values i 0) (i + 1) (omega arith)))
+
+  line-parts : length (valuesText values) ≡ 1 + length (saidText values) + 1
+  unfolding valuesText
+  line-parts = simp length-append
+
+  pub values-length : length values ≤ 65536 → length (valuesText values) ≤ 458754
+  values-length h = omega (arith, said-length h, line-parts)
+
+  pub letter-room : (xs : List ℕ) → length (valuesText values) ≤ length xs → 0 + 1 ≤ length xs
+  letter-room xs room = omega (arith, line-parts)
+
+  pub said-room : (xs : List ℕ) → length (valuesText values) ≤ length xs → {ys : List ℕ} {n : ℕ} → Wrote (118 ∷ []) 0 xs ys n → n + length (saidText values) ≤ length ys
+  said-room xs room v = omega (arith, line-parts, kept v, v .next)
+
+  pub line-wrote : (xs : List ℕ) → length (valuesText values) ≤ length xs → {ys zs us : List ℕ} {n m k : ℕ} → Wrote (118 ∷ []) 0 xs ys n
+      → Wrote (saidText values) n ys zs m → k ≡ placeAfter (10 ∷ []) m (length zs) → us ≡ placed (10 ∷ []) m zs → Wrote (valuesText values) 0 xs us k
+  unfolding valuesText
+  line-wrote xs room v e p q = then-put (10 ∷ []) (then v e) p q (omega (arith, room))
+
+-- ---- measured in an array of its own and copied
+
+module _ (values buf : List ℕ) where
+  pub many : 65536 < length values → (Refused 26 ≡ writtenValues values (length buf)) × (buf ≡ valuesBuffer values buf)
+  unfolding writtenValues valuesBuffer
+  many h = (rw (lt-ltb 65536 (length values) h), rw (lt-ltb 65536 (length values) h))
+
+  module _ (few : length values ≤ 65536) {xs ys : List ℕ} {n : ℕ} (w : Wrote (valuesText values) 0 xs ys n) where
+    pub long : length buf < n → (Refused 24 ≡ writtenValues values (length buf)) × (buf ≡ valuesBuffer values buf)
+    unfolding writtenValues valuesBuffer
+    long h =
+        let l : length buf < length (valuesText values) = omega (arith, w .next) in
+        (rw (le-ltb 65536 (length values) few, lt-ltb _ _ l), rw (le-ltb 65536 (length values) few) (no-room (valuesText values) buf 0 (omega arith) .1))
+
+    pub copied : (after : List ℕ) → n ≤ length buf → after ≡ placed (take n ys) 0 buf
+        → (Bytes n ≡ writtenValues values (length buf)) × (after ≡ valuesBuffer values buf)
+    unfolding writtenValues valuesBuffer
+    copied after h p =
+        let e : n ≡ length (valuesText values) = omega (arith, w .next) in (
+          rw (le-ltb 65536 (length values) few, e, le-ltb (length buf) (length (valuesText values)) (omega arith)),
+          rw (le-ltb 65536 (length values) few) (p ∙ ap (λ (t : List ℕ). placed t 0 buf) (front w)),
+        )
+
+-- ---- the variables that no line said
+
+module _ (values : List ℕ) (i : ℕ) (h : i < length values) where
+  pub unsaid-more : isSaid (getD values i 0) ≡ false → unsaidCount (drop i values) ≡ 1 + unsaidCount (drop (i + 1) values)
+  unfolding unsaidCount
+  unsaid-more e = rw (drop-next 0 values i h, e, those) (omega arith)
+
+  pub unsaid-same : isSaid (getD values i 0) ≡ true → unsaidCount (drop i values) ≡ unsaidCount (drop (i + 1) values)
+  unfolding unsaidCount
+  unsaid-same e = rw (drop-next 0 values i h, e, those)
+
+pub unsaid-none : (values : List ℕ) (i : ℕ) → length values ≤ i → unsaidCount (drop i values) ≡ 0
+unsaid-none values i h = ap unsaidCount (drop-of-length-le values h) ∙ (unfold unsaidCount in refl)
+
+-- ---- what a caller asks
+
+pub unsaid-le : (values : List ℕ) → unsaidCount values ≤ length values
+unfolding unsaidCount
+unsaid-le [] = omega arith
+unsaid-le (x ∷ values) = go (isSaid x) refl (unsaid-le values)
+  where
+    go : (t : Bool) → isSaid x ≡ t → unsaidCount values ≤ length values → unsaidCount (x ∷ values) ≤ suc (length values)
+    go true e ih = rw (e, those) (omega arith)
+    go false e ih = rw (e, those) (omega arith)
+
+pub values-inside : (values : List ℕ) (room n : ℕ) → Bytes n ≡ writtenValues values room → n ≤ room
+unfolding writtenValues
+values-inside values room n e = go (ltb 65536 (length values)) e
+  where
+    go : (t : Bool) → Bytes n ≡ cond t (Refused 26) (cond (ltb room (length (valuesText values))) (Refused 24) (Bytes (length (valuesText values)))) → n ≤ room
+    go true e = let z : _≡_ {A = ℕ} 0 1 = cc in omega arith
+    go false e = fits room (length (valuesText values)) n e

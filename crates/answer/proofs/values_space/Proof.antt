@@ -1,0 +1,11 @@
+-- `values_space` is as long as the longest text. Assumes nothing.
+use Prim.Native.Nat.{ℕ}
+use lib.ListN.{length-replicate}
+use Rattle.answer.proofs.values_space.Statement.{statement}
+use Rattle.answer.proofs.values_space.Tie as tie
+
+returns : tie.Need-returns
+returns c = length-replicate {A = ℕ} 458754 0
+
+pub values-space-spec : {M : Type 1} → statement M
+values-space-spec = tie.close (tie.spec returns)

@@ -1,0 +1,38 @@
+-- The text of the values that a solver says: `v 1 -2 3`, each variable that is said.
+use Prim.Native.Nat.{ℕ, _+_}
+use mathlib.Core.Bool.{cond, not}
+use mathlib.Core.List.{List, [], _∷_, _++_}
+use lib.Dec.{ltb, eqb}
+use lib.ListN.{length, getD}
+use Rattle.model.specs.declared.Written.{Written}
+use Rattle.model.specs.declared.Written.the-variants.{Bytes, Refused}
+use Rattle.model.specs.Lists.{those, each, range}
+use Rattle.model.specs.Assignment.{isSaid}
+use Rattle.model.specs.Text.{decimal}
+use Rattle.text.specs.Put.{placed}
+
+-- variable v after a space, with a minus sign where it is false; nothing where it is unsaid
+unfoldable pub valueText : ℕ → ℕ → List ℕ
+valueText x v = cond (eqb x 1) ((32 ∷ []) ++ decimal v) (cond (eqb x 2) ((32 ∷ 45 ∷ []) ++ decimal v) [])
+
+abbrev pub valueAt : List ℕ → ℕ → List ℕ
+valueAt values i = valueText (getD values i 0) (i + 1)
+
+unfoldable pub saidText : List ℕ → List ℕ
+saidText values = each (valueAt values) (range 0 (length values))
+
+unfoldable pub valuesText : List ℕ → List ℕ
+valuesText values = (118 ∷ []) ++ saidText values ++ (10 ∷ [])
+
+-- 26 of more values than a listing of 65,536 variables has; 24 where the buffer is shorter than the text
+unfoldable pub writtenValues : List ℕ → ℕ → Written
+writtenValues values room =
+    cond (ltb 65536 (length values)) (Refused 26)
+    (cond (ltb room (length (valuesText values))) (Refused 24) (Bytes (length (valuesText values))))
+
+unfoldable pub valuesBuffer : List ℕ → List ℕ → List ℕ
+valuesBuffer values buf = cond (ltb 65536 (length values)) buf (placed (valuesText values) 0 buf)
+
+-- how many variables no line said
+unfoldable pub unsaidCount : List ℕ → ℕ
+unsaidCount values = length (those (λ x. not (isSaid x)) values)

@@ -1,0 +1,4 @@
+pub mod Trees
+pub mod Groups
+pub mod Entrants
+pub mod Settled

@@ -1,0 +1,256 @@
+// How many clauses the listing of a model has: C of its first line.
+ghost use mathlib.Core.Path.{_≡_};
+ghost use Prim.Native.Nat.{_+_, _*_, _≤_};
+ghost use lib.Dec.{T};
+ghost use lib.ListN.{length, take};
+ghost use Rattle.model.specs.Lists.{every, total};
+ghost use Rattle.model.specs.Limits.{limits};
+ghost use Rattle.model.specs.Clauses.{memberClauses};
+ghost use Rattle.model.specs.Model.{constraintInRange};
+ghost use Rattle.model.specs.Totalizer.{treeClauseCount};
+ghost use Rattle.model.specs.Cnf.{groupClauseCount, constraintClauses, clauseCount};
+ghost use Rattle.model.specs.Propagate.{Settled};
+ghost use Rattle.model.proofs.Lists.{All};
+ghost use Rattle.encoding_laws.proofs.Fixpoint.{SettledAmong};
+ghost use Rattle.numbering.specs.Numbering.{firstVariables};
+ghost use Rattle.terms.specs.Terms.{MembersBelow};
+ghost use Rattle.counts.specs.Counts.{keptCount, entrantCount, constraintCount, listedClauses};
+use model::Constraint;
+use model::Group;
+use model::Model;
+use terms::Member;
+
+// ---- groups
+
+// "Tree clauses T(1) = 0, T(m) = T(left) + T(right) + 2(a+1)(b+1) - 2", for every size of a word's set.
+const CLAUSES: [u32; Model::WORD as usize + 1] = [
+    0,
+    0,
+    6,
+    16,
+    28,
+    44,
+    62,
+    82,
+    104,
+    130,
+    158,
+    188,
+    220,
+    254,
+    290,
+    328,
+    368,
+    412,
+    458,
+    506,
+    556,
+    608,
+    662,
+    718,
+    776,
+    836,
+    898,
+    962,
+    1028,
+    1096,
+    1166,
+    1238,
+    1312,
+    1390,
+    1470,
+    1552,
+    1636,
+    1722,
+    1810,
+    1900,
+    1992,
+    2086,
+    2182,
+    2280,
+    2380,
+    2482,
+    2586,
+    2692,
+    2800,
+    2910,
+    3022,
+    3136,
+    3252,
+    3370,
+    3490,
+    3612,
+    3736,
+    3862,
+    3990,
+    4120,
+    4252,
+    4386,
+    4522,
+    4660,
+    4800,
+];
+
+fn tree_count(m: u32) -> u32
+    requires { ⌜ m ≤ limits .word ⌝ }
+    ensures { λ r. ⌜ r ≡ treeClauseCount m ⌝ }
+{
+    CLAUSES[m as usize]
+}
+
+// How many clauses a group's totalizer has: no more than a block has bytes.
+fn group_count(g: Group) -> u32
+    requires { ⌜ SettledAmong (limits .entrants) g ⌝ }
+    ensures { λ r. ⌜ (r ≡ groupClauseCount g) × (r ≤ limits .block) ⌝ }
+{
+    let t = numbering::totalizer_of(g);
+    if !t.exists {
+        return 0;
+    }
+    tree_count(t.size) + t.low + (t.size - t.high)
+}
+
+// Of the first s groups.
+fn sum_groups(groups: [Group; Model::GROUPS], s: usize) -> u32
+    requires { ⌜ s ≤ limits .groups ⌝ }
+    requires { ⌜ All (SettledAmong (limits .entrants)) (take s groups) ⌝ }
+    ensures { λ r. ⌜ (r ≡ total groupClauseCount (take s groups)) × (r ≤ s * limits .block) ⌝ }
+{
+    let mut r = 0;
+    let mut i: usize = 0;
+    while i < s {
+        let g = groups[i];
+        r += group_count(g);
+        i += 1;
+    }
+    r
+}
+
+// ---- constraints
+
+// 1 where clause j is kept, and 0 where it is left out.
+fn kept_count(ns: &[u32; Model::MEMBERS], code: u32, count: u32, j: usize) -> u32
+    ensures { λ r. ⌜ (r ≡ keptCount (now (ns .entry)) code count j) × (r ≤ 1) ⌝ }
+{
+    if terms::clause_true(ns, code, count, j) {
+        return 0;
+    }
+    1
+}
+
+// Of one entrant.
+fn entrant_count(ns: &[u32; Model::MEMBERS], code: u32, count: u32) -> u32
+    requires { ⌜ length (memberClauses code count) ≤ limits .members ⌝ }
+    ensures { λ r. ⌜ (r ≡ entrantCount (now (ns .entry)) code count) × (r ≤ length (memberClauses code count)) ⌝ }
+{
+    let end = constraint::clause_count(code, count);
+    let mut r = 0;
+    let mut j: usize = 0;
+    while j < end {
+        r += kept_count(ns, code, count, j);
+        j += 1;
+    }
+    r
+}
+
+// The same as entrant_count, of which k members are enough: where they are all open, no clause is left out.
+fn entrant_total(ns: &[u32; Model::MEMBERS], k: usize, code: u32, count: u32) -> u32
+    requires { ⌜ MembersBelow k code count ⌝ }
+    requires { ⌜ length (memberClauses code count) ≤ limits .members ⌝ }
+    ensures { λ r. ⌜ (r ≡ entrantCount (now (ns .entry)) code count) × (r ≤ length (memberClauses code count)) ⌝ }
+{
+    if terms::all_open(ns, k) {
+        return constraint::clause_count(code, count) as u32;
+    }
+    entrant_count(ns, code, count)
+}
+
+// Of a constraint of k members, for n entrants.
+fn constraint_count(ms: [Member; Model::MEMBERS], k: usize, code: u32, count: u32, n: u32) -> u32
+    requires { ⌜ (k ≤ limits .members) × (n ≤ limits .entrants) ⌝ }
+    requires { ⌜ MembersBelow k code count ⌝ }
+    requires { ⌜ length (memberClauses code count) ≤ limits .members ⌝ }
+    ensures { λ r. ⌜ (r ≡ constraintCount (take k ms) code count n) × (r ≤ limits .entrants * limits .members) ⌝ }
+{
+    let mut r = 0;
+    let mut e = 0;
+    while e < n {
+        let ns = terms::member_numbers(ms, k, e);
+        r += entrant_total(&ns, k, code, count);
+        e += 1;
+    }
+    r
+}
+
+// Of constraint c among the first s groups.
+fn constraint_length(
+    groups: [Group; Model::GROUPS],
+    s: usize,
+    first: [u32; Model::GROUPS],
+    c: Constraint,
+    n: u32,
+) -> u32
+    requires { ⌜ (s ≤ limits .groups) × (n ≤ limits .entrants) ⌝ }
+    requires { ⌜ All (SettledAmong (limits .entrants)) (take s groups) × (first ≡ firstVariables (take s groups)) ⌝ }
+    requires { ⌜ T (constraintInRange s c) ⌝ }
+    ensures { λ r. ⌜ (r ≡ length (constraintClauses n (take s groups) c)) × (r ≤ limits .entrants * limits .members) ⌝ }
+{
+    let k = range::member_count(c.code, c.count);
+    let ids = c.groups;
+    let ms = terms::members(groups, first, ids, k);
+    constraint_count(ms, k, c.code, c.count, n)
+}
+
+// Of the first c constraints.
+fn sum_constraints(
+    groups: [Group; Model::GROUPS],
+    s: usize,
+    first: [u32; Model::GROUPS],
+    constraints: [Constraint; Model::CONSTRAINTS],
+    c: usize,
+    n: u32,
+) -> u32
+    requires { ⌜ (s ≤ limits .groups) × (n ≤ limits .entrants) × (c ≤ limits .constraints) ⌝ }
+    requires { ⌜ All (SettledAmong (limits .entrants)) (take s groups) × (first ≡ firstVariables (take s groups)) ⌝ }
+    requires { ⌜ T (every (constraintInRange s) (take c constraints)) ⌝ }
+    ensures { λ r. ⌜ (r ≡ total (λ x. length (constraintClauses n (take s groups) x)) (take c constraints)) × (r ≤ c * (limits .entrants * limits .members)) ⌝ }
+{
+    let mut r = 0;
+    let mut j: usize = 0;
+    while j < c {
+        let x = constraints[j];
+        r += constraint_length(groups, s, first, x, n);
+        j += 1;
+    }
+    r
+}
+
+// ---- a model
+
+// Of a settled model.
+fn settled_count(m: Model) -> u32
+    requires { ⌜ Settled m ⌝ }
+    ensures { λ r. ⌜ r ≡ clauseCount m ⌝ }
+{
+    let v = numbering::of_model(m);
+    let s = m.s as usize;
+    let groups = m.groups;
+    let constraints = m.constraints;
+    let first = v.first;
+    let a = sum_groups(groups, s);
+    let b = sum_constraints(groups, s, first, constraints, m.c as usize, m.n);
+    a + b
+}
+
+// Of every model: 0 where it is refused, since then there is no listing.
+pub fn clause_count(m: Model) -> u32
+    ensures { λ r. ⌜ r ≡ listedClauses m ⌝ }
+{
+    if propagate::unsettled(m) != 0 {
+        return 0;
+    }
+    let groups = m.groups;
+    let constraints = m.constraints;
+    model::whole(groups, constraints);
+    settled_count(m)
+}

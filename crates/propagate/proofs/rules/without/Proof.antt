@@ -1,0 +1,11 @@
+-- `without` is the difference of two words. Assumes nothing.
+use Rattle.model.proofs.Words.{and-not}
+use borrow.Author.Needs.{needs}
+use Rattle.propagate.proofs.rules.without.Statement.{statement}
+use Rattle.propagate.proofs.rules.without.Tie as tie
+
+returns : tie.Need-returns
+returns c = and-not 64 ((c .args .a)) ((c .args .b)) (search needs) (search needs)
+
+pub without-spec : {M : Type 1} → statement M
+without-spec = tie.close (tie.spec returns)

@@ -1,0 +1,250 @@
+// The group rule and the constraint rule, on the four arrays of the table.
+ghost use mathlib.Core.Path.{_≡_};
+ghost use mathlib.Core.List.{[], _∷_, _++_, map};
+ghost use Prim.Native.Nat.{_+_, _-_, _≤_, _<_};
+ghost use lib.Dec.{T};
+ghost use lib.ListN.{length, getD, take, drop};
+ghost use lib.Seq.{slice};
+ghost use Rattle.model.specs.declared.Literal.the-variants.{Pos};
+ghost use Rattle.model.specs.Limits.{limits};
+ghost use Rattle.model.specs.Lists.{every, range};
+ghost use Rattle.model.specs.Words.{less};
+ghost use Rattle.model.specs.Clauses.{ofGroup, clausesOf};
+ghost use Rattle.model.specs.Model.{constraintInRange};
+ghost use Rattle.model.specs.Propagate.{groupRuleAt, madeTrue, literalRule, clauseRule, constraintRule, run};
+ghost use Rattle.propagate.specs.Flat.{zipped, Changes, Acts, AllFalse, Stands, LiteralStands, clauseOf, ClauseStands, constraintOf};
+use model::Constraint;
+use model::Group;
+use model::Literal;
+use model::Model;
+
+// ---- the group rule
+
+fn group_rule_at(
+    fixed: &mut [u64; Model::GROUPS],
+    possible: &mut [u64; Model::GROUPS],
+    low: &mut [u32; Model::GROUPS],
+    high: &mut [u32; Model::GROUPS],
+    i: usize,
+)
+    requires { ⌜ i < limits .groups ⌝ }
+    ensures { λ r. ⌜ zipped (now (fixed .exit)) (now (possible .exit)) (now (low .exit)) (now (high .exit)) ≡ groupRuleAt (i + 1) (zipped (now (fixed .entry)) (now (possible .entry)) (now (low .entry)) (now (high .entry))) ⌝ }
+{
+    let g = group_rule::applied(Group {
+        fixed: fixed[i],
+        possible: possible[i],
+        low: low[i],
+        high: high[i],
+    });
+    fixed[i] = g.fixed;
+    possible[i] = g.possible;
+    low[i] = g.low;
+    high[i] = g.high;
+}
+
+// Groups 1 to s.
+pub(crate) fn group_rules(
+    fixed: &mut [u64; Model::GROUPS],
+    possible: &mut [u64; Model::GROUPS],
+    low: &mut [u32; Model::GROUPS],
+    high: &mut [u32; Model::GROUPS],
+    s: usize,
+)
+    requires { ⌜ s ≤ limits .groups ⌝ }
+    ensures { λ r. ⌜ zipped (now (fixed .exit)) (now (possible .exit)) (now (low .exit)) (now (high .exit)) ≡ run (map groupRuleAt (range 1 s)) (zipped (now (fixed .entry)) (now (possible .entry)) (now (low .entry)) (now (high .entry))) ⌝ }
+{
+    let mut i: usize = 0;
+    while i < s {
+        group_rule_at(fixed, possible, low, high, i);
+        i += 1;
+    }
+}
+
+// ---- the constraint rule
+
+// Where the group of member m stands.
+fn place(ids: &[u32; Model::MEMBERS], m: u32) -> usize
+    requires { ⌜ Stands (now ids) m ⌝ }
+    ensures { λ r. ⌜ (r ≡ getD (now (ids .entry)) m 0 - 1) × (r < limits .groups) ⌝ }
+{
+    let i = m as usize;
+    ids[i] as usize - 1
+}
+
+fn without(a: u64, b: u64) -> u64
+    ensures { λ r. ⌜ r ≡ less a b ⌝ }
+{
+    a & !b
+}
+
+// The entrants of w for whom a literal is settled false.
+fn literal_false(
+    fixed: &[u64; Model::GROUPS],
+    possible: &[u64; Model::GROUPS],
+    ids: &[u32; Model::MEMBERS],
+    l: Literal,
+    w: u64,
+) -> u64
+    requires { ⌜ LiteralStands (now ids) l ⌝ }
+    ensures { λ r. ⌜ AllFalse r (now (fixed .entry)) (now (possible .entry)) w (ofGroup (now (ids .entry)) l ∷ []) ⌝ }
+{
+    match l {
+        Literal::Pos(m) => {
+            let i = place(ids, m);
+            without(w, possible[i])
+        }
+        Literal::Neg(m) => {
+            let i = place(ids, m);
+            w & fixed[i]
+        }
+    }
+}
+
+// A literal made true for the entrants of w.
+fn make_true(
+    fixed: &mut [u64; Model::GROUPS],
+    possible: &mut [u64; Model::GROUPS],
+    ids: &[u32; Model::MEMBERS],
+    l: Literal,
+    w: u64,
+)
+    requires { ⌜ LiteralStands (now ids) l ⌝ }
+    ensures { λ r. ⌜ Acts (madeTrue (ofGroup (now (ids .entry)) l) w) (now (fixed .entry)) (now (possible .entry)) (now (fixed .exit)) (now (possible .exit)) ⌝ }
+{
+    match l {
+        Literal::Pos(m) => {
+            let i = place(ids, m);
+            fixed[i] = fixed[i] | w;
+        }
+        Literal::Neg(m) => {
+            let i = place(ids, m);
+            possible[i] = without(possible[i], w);
+        }
+    }
+}
+
+// The same for the literals a, a + 1, .. below b of clause j.
+fn literals_false(
+    fixed: &[u64; Model::GROUPS],
+    possible: &[u64; Model::GROUPS],
+    ids: &[u32; Model::MEMBERS],
+    code: u32,
+    k: u32,
+    j: usize,
+    a: usize,
+    b: usize,
+    start: u64,
+) -> u64
+    requires { ⌜ ClauseStands (now ids) (clauseOf code k j) × (b ≤ length (clauseOf code k j)) ⌝ }
+    ensures { λ r. ⌜ AllFalse r (now (fixed .entry)) (now (possible .entry)) start (slice a b (map (ofGroup (now (ids .entry))) (clauseOf code k j))) ⌝ }
+{
+    let mut w = start;
+    let mut i = a;
+    while i < b {
+        let l = constraint::literal_at(code, k, j, i);
+        w = literal_false(fixed, possible, ids, l, w);
+        i += 1;
+    }
+    w
+}
+
+// Where all other literals of clause j are settled false, literal i is made true.
+fn literal_rule(
+    fixed: &mut [u64; Model::GROUPS],
+    possible: &mut [u64; Model::GROUPS],
+    ids: &[u32; Model::MEMBERS],
+    n: u32,
+    code: u32,
+    k: u32,
+    j: usize,
+    i: usize,
+    count: usize,
+)
+    requires { ⌜ ClauseStands (now ids) (clauseOf code k j) × ((n ≤ limits .entrants) × ((i < count) × (count ≡ length (clauseOf code k j)))) ⌝ }
+    ensures { λ r. ⌜ Acts (literalRule n (ofGroup (now (ids .entry)) (getD (clauseOf code k j) i (Pos 0))) (take i (map (ofGroup (now (ids .entry))) (clauseOf code k j)) ++ drop (i + 1) (map (ofGroup (now (ids .entry))) (clauseOf code k j)))) (now (fixed .entry)) (now (possible .entry)) (now (fixed .exit)) (now (possible .exit)) ⌝ }
+{
+    let before = literals_false(fixed, possible, ids, code, k, j, 0, i, model::entrants(n));
+    let w = literals_false(fixed, possible, ids, code, k, j, i + 1, count, before);
+    let l = constraint::literal_at(code, k, j, i);
+    make_true(fixed, possible, ids, l, w);
+}
+
+// The literals of clause j in order.
+fn clause_rule(
+    fixed: &mut [u64; Model::GROUPS],
+    possible: &mut [u64; Model::GROUPS],
+    ids: &[u32; Model::MEMBERS],
+    n: u32,
+    code: u32,
+    k: u32,
+    j: usize,
+)
+    requires { ⌜ ClauseStands (now ids) (clauseOf code k j) × (n ≤ limits .entrants) ⌝ }
+    ensures { λ r. ⌜ Acts (clauseRule n (map (ofGroup (now (ids .entry))) (clauseOf code k j))) (now (fixed .entry)) (now (possible .entry)) (now (fixed .exit)) (now (possible .exit)) ⌝ }
+{
+    let count = constraint::literal_count(code, k, j);
+    let mut i: usize = 0;
+    while i < count {
+        literal_rule(fixed, possible, ids, n, code, k, j, i, count);
+        i += 1;
+    }
+}
+
+// The clauses of a constraint in order.
+fn clause_rules(
+    fixed: &mut [u64; Model::GROUPS],
+    possible: &mut [u64; Model::GROUPS],
+    ids: [u32; Model::MEMBERS],
+    n: u32,
+    code: u32,
+    k: u32,
+)
+    requires { ⌜ T (constraintInRange (limits .groups) (constraintOf code k ids)) × (n ≤ limits .entrants) ⌝ }
+    ensures { λ r. ⌜ Acts (run (map (clauseRule n) (clausesOf (constraintOf code k ids)))) (now (fixed .entry)) (now (possible .entry)) (now (fixed .exit)) (now (possible .exit)) ⌝ }
+{
+    let count = constraint::clause_count(code, k);
+    let mut j: usize = 0;
+    while j < count {
+        clause_rule(fixed, possible, &ids, n, code, k, j);
+        j += 1;
+    }
+}
+
+// A constraint: its clauses, which leave the limits as they are.
+fn constraint_rule(
+    fixed: &mut [u64; Model::GROUPS],
+    possible: &mut [u64; Model::GROUPS],
+    low: &mut [u32; Model::GROUPS],
+    high: &mut [u32; Model::GROUPS],
+    ids: [u32; Model::MEMBERS],
+    n: u32,
+    code: u32,
+    k: u32,
+)
+    requires { ⌜ T (constraintInRange (limits .groups) (constraintOf code k ids)) × (n ≤ limits .entrants) ⌝ }
+    ensures { λ r. ⌜ Changes (constraintRule n (constraintOf code k ids)) (zipped (now (fixed .entry)) (now (possible .entry)) (now (low .entry)) (now (high .entry))) (zipped (now (fixed .exit)) (now (possible .exit)) (now (low .exit)) (now (high .exit))) ⌝ }
+{
+    clause_rules(fixed, possible, ids, n, code, k);
+}
+
+// Constraints 1 to c in order.
+pub(crate) fn constraint_rules(
+    fixed: &mut [u64; Model::GROUPS],
+    possible: &mut [u64; Model::GROUPS],
+    low: &mut [u32; Model::GROUPS],
+    high: &mut [u32; Model::GROUPS],
+    constraints: [Constraint; Model::CONSTRAINTS],
+    n: u32,
+    c: usize,
+)
+    requires { ⌜ (c ≤ limits .constraints) × (T (every (constraintInRange (limits .groups)) (take c constraints)) × (n ≤ limits .entrants)) ⌝ }
+    ensures { λ r. ⌜ Changes (run (map (constraintRule n) (take c constraints))) (zipped (now (fixed .entry)) (now (possible .entry)) (now (low .entry)) (now (high .entry))) (zipped (now (fixed .exit)) (now (possible .exit)) (now (low .exit)) (now (high .exit))) ⌝ }
+{
+    let mut j: usize = 0;
+    while j < c {
+        let l = constraints[j];
+        let ids = l.groups;
+        constraint_rule(fixed, possible, low, high, ids, n, l.code, l.count);
+        j += 1;
+    }
+}

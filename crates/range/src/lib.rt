@@ -1,0 +1,197 @@
+// The range check of a model: refusal 20. The reader asks the same of a constraint line.
+ghost use mathlib.Core.Path.{_≡_};
+ghost use Prim.Native.Nat.{_≤_};
+ghost use lib.Dec.{eqb};
+ghost use lib.ListN.{take, drop};
+ghost use Rattle.model.specs.Lists.{every, any, distinct, between};
+ghost use Rattle.model.specs.Limits.{limits};
+ghost use Rattle.model.specs.Clauses.{memberCount};
+ghost use Rattle.model.specs.Model.{groupInRange, codeInRange, constraintInRange, inRange};
+use model::Constraint;
+use model::Group;
+use model::Model;
+
+// ---- groups
+
+fn group_in_range(g: Group, n: u32) -> bool
+    requires { ⌜ n ≤ limits .entrants ⌝ }
+    ensures { λ r. ⌜ r ≡ groupInRange n g ⌝ }
+{
+    if g.fixed & g.possible != g.fixed {
+        return false;
+    }
+    if model::entrants(n) < g.possible {
+        return false;
+    }
+    if g.high < g.low {
+        return false;
+    }
+    g.high <= n
+}
+
+// The first s groups.
+fn groups_in_range(groups: [Group; Model::GROUPS], s: usize, n: u32) -> bool
+    requires { ⌜ (n ≤ limits .entrants) × (s ≤ limits .groups) ⌝ }
+    ensures { λ r. ⌜ r ≡ every (groupInRange n) (take s groups) ⌝ }
+{
+    let mut i: usize = 0;
+    while i < s {
+        let g = groups[i];
+        if !group_in_range(g, n) {
+            return false;
+        }
+        i += 1;
+    }
+    true
+}
+
+// ---- constraints
+
+// The groups of each code below 6.
+const COUNTS: [usize; 6] = [0, 2, 2, 3, 3, 3];
+
+// How many groups a constraint has.
+pub fn member_count(code: u32, count: u32) -> usize
+    ensures { λ r. ⌜ r ≡ memberCount code count ⌝ }
+{
+    if code == 6 {
+        return count as usize + 1;
+    }
+    if code < 6 {
+        return COUNTS[code as usize];
+    }
+    0
+}
+
+// The first k numbers are 1 to s.
+pub fn all_between(ids: [u32; Model::MEMBERS], k: usize, s: u32) -> bool
+    ensures { λ r. ⌜ r ≡ every (between 1 s) (take k ids) ⌝ }
+{
+    let mut i: usize = 0;
+    while i < Model::MEMBERS {
+        if k <= i {
+            return true;
+        }
+        if ids[i] < 1 {
+            return false;
+        }
+        if s < ids[i] {
+            return false;
+        }
+        i += 1;
+    }
+    true
+}
+
+// Whether x stands among the first k numbers, from place i on.
+fn stands(ids: [u32; Model::MEMBERS], i: usize, k: usize, x: u32) -> bool
+    ensures { λ r. ⌜ r ≡ any (eqb x) (drop i (take k ids)) ⌝ }
+{
+    let mut j = i;
+    while j < Model::MEMBERS {
+        if k <= j {
+            return false;
+        }
+        if x == ids[j] {
+            return true;
+        }
+        j += 1;
+    }
+    false
+}
+
+// The first k numbers are all different.
+pub fn all_distinct(ids: [u32; Model::MEMBERS], k: usize) -> bool
+    ensures { λ r. ⌜ r ≡ distinct (take k ids) ⌝ }
+{
+    let mut i: usize = 0;
+    while i < Model::MEMBERS {
+        if k <= i {
+            return true;
+        }
+        let x = ids[i];
+        if stands(ids, i + 1, k, x) {
+            return false;
+        }
+        i += 1;
+    }
+    true
+}
+
+// A code is 1 to 6, and the count of code 6 is 2 to 16.
+pub fn code_in_range(code: u32, count: u32) -> bool
+    ensures { λ r. ⌜ r ≡ codeInRange code count ⌝ }
+{
+    if code < 1 {
+        return false;
+    }
+    if 6 < code {
+        return false;
+    }
+    if code != 6 {
+        return true;
+    }
+    if count < 2 {
+        return false;
+    }
+    count as usize <= Model::MEMBERS - 1
+}
+
+fn constraint_in_range(c: Constraint, s: u32) -> bool
+    ensures { λ r. ⌜ r ≡ constraintInRange s c ⌝ }
+{
+    if !code_in_range(c.code, c.count) {
+        return false;
+    }
+    let ids = c.groups;
+    let k = member_count(c.code, c.count);
+    if !all_between(ids, k, s) {
+        return false;
+    }
+    all_distinct(ids, k)
+}
+
+// The first c constraints.
+fn constraints_in_range(constraints: [Constraint; Model::CONSTRAINTS], c: usize, s: u32) -> bool
+    requires { ⌜ c ≤ limits .constraints ⌝ }
+    ensures { λ r. ⌜ r ≡ every (constraintInRange s) (take c constraints) ⌝ }
+{
+    let mut j: usize = 0;
+    while j < c {
+        let k = constraints[j];
+        if !constraint_in_range(k, s) {
+            return false;
+        }
+        j += 1;
+    }
+    true
+}
+
+// ---- a model
+
+// False is refusal 20.
+pub fn in_range(m: Model) -> bool
+    ensures { λ r. ⌜ r ≡ inRange m ⌝ }
+{
+    if m.n < 1 {
+        return false;
+    }
+    if Model::ENTRANTS < m.n {
+        return false;
+    }
+    if m.s < 1 {
+        return false;
+    }
+    if Model::GROUPS < m.s as usize {
+        return false;
+    }
+    if Model::CONSTRAINTS < m.c as usize {
+        return false;
+    }
+    let groups = m.groups;
+    if !groups_in_range(groups, m.s as usize, m.n) {
+        return false;
+    }
+    let constraints = m.constraints;
+    constraints_in_range(constraints, m.c as usize, m.s)
+}

@@ -1,0 +1,20 @@
+-- Messages that compute. Assumes nothing.
+use mathlib.Core.Path.{_≡_, refl}
+use Rattle.model.specs.Text.{digits, decimal}
+use Rattle.report.specs.Messages.{bytes, meaningText, refusedAtText, refusedLineText, countsText}
+
+at-a-line : refusedAtText 9 14 ≡ bytes "refused 9 at line 14\na group stands twice in the line\n"
+unfolding refusedAtText meaningText decimal digits
+at-a-line = refl
+
+of-a-line : refusedLineText 3 12 ≡ bytes "line 3: refused 12: a variable is said twice\n"
+unfolding refusedLineText meaningText decimal digits
+of-a-line = refl
+
+a-long-line : refusedLineText 7 24 ≡ bytes "line 7: too long, not read\n"
+unfolding refusedLineText decimal digits
+a-long-line = refl
+
+a-sheet : countsText 32 4 10 ≡ bytes "32 entrants, 4 groups, 10 constraints\n"
+unfolding countsText decimal digits
+a-sheet = refl

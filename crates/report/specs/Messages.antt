@@ -1,0 +1,131 @@
+-- What the programs say: every message, as the bytes that they print.
+use Prim.Native.Nat.{ℕ, _≤_}
+use mathlib.Core.Path.{_≡_}
+use Prim.Native.Char.{code}
+use Prim.Native.String.{String, [] as noText, _∷_ as _before_}
+use mathlib.Core.Bool.{Bool, cond}
+use mathlib.Core.List.{List, [], _∷_, _++_}
+use lib.Dec.{eqb}
+use lib.ListN.{length, take, drop, replicate}
+use Rattle.model.specs.Text.{decimal}
+use Rattle.text.specs.Put.{placed, placeAfter}
+use Rattle.report.specs.declared.Message.{Message}
+use Rattle.report.specs.declared.Tried.{Tried}
+
+-- the bytes of a text in ASCII
+abbrev pub bytes : String → List ℕ
+bytes noText = []
+bytes (c before s) = code c ∷ bytes s
+
+-- ---- refusals
+
+abbrev pub meanings : List (ℕ × String)
+meanings =
+    (1, "the sheet has more than 57,873 bytes\n")
+    ∷ (2, "the sheet is empty, or its last line does not end in a newline\n")
+    ∷ (3, "the line is empty, or its length is no multiple of four columns\n")
+    ∷ (4, "a field is not a number set to the right of its four columns, without needless zeros\n")
+    ∷ (5, "another kind of line belongs here: one head (1), then the groups (2), then the constraints (3)\n")
+    ∷ (6, "the number of fields is wrong, or the code is not 1 to 6, or its count is not 2 to 16\n")
+    ∷ (7, "a number is out of its range\n")
+    ∷ (8, "the group's number is not the next one\n")
+    ∷ (9, "a group stands twice in the line\n")
+    ∷ (10, "the line is not one of the solver's output form\n")
+    ∷ (11, "the line names a variable that the listing does not have\n")
+    ∷ (12, "a variable is said twice\n")
+    ∷ (20, "the model is out of a sheet's ranges\n")
+    ∷ (21, "no draw: the groups' limits and constraints contradict each other\n")
+    ∷ (22, "the table is not settled\n")
+    ∷ (23, "the listing has no such block\n")
+    ∷ (24, "the buffer is shorter than the block\n")
+    ∷ (25, "a value line comes after the closing 0\n")
+    ∷ (26, "the number of values is not the number of variables\n")
+    ∷ (27, "the solver's answer is not complete: no closing 0, or a variable is not said\n")
+    ∷ (28, "the solver's answer breaks a clause\n")
+    ∷ (29, "a constraint has a clause without literals\n")
+    ∷ []
+
+-- the text that stands at a number; nothing where none does
+abbrev pub textAt : List (ℕ × String) → ℕ → List ℕ
+textAt [] k = []
+textAt (e ∷ es) k = cond (eqb k (e .0)) (bytes (e .1)) (textAt es k)
+
+unfoldable pub meaningText : ℕ → List ℕ
+meaningText refusal = textAt meanings refusal
+
+unfoldable pub refusedText : ℕ → List ℕ
+refusedText refusal = bytes "refused " ++ decimal refusal ++ bytes "\n" ++ meaningText refusal
+
+unfoldable pub refusedAtText : ℕ → ℕ → List ℕ
+refusedAtText refusal line = bytes "refused " ++ decimal refusal ++ bytes " at line " ++ decimal line ++ bytes "\n" ++ meaningText refusal
+
+-- of a solver's line; 24 is a line that is too long
+unfoldable pub refusedLineText : ℕ → ℕ → List ℕ
+refusedLineText line refusal =
+    cond (eqb refusal 24)
+    (bytes "line " ++ decimal line ++ bytes ": too long, not read\n")
+    (bytes "line " ++ decimal line ++ bytes ": refused " ++ decimal refusal ++ bytes ": " ++ meaningText refusal)
+
+-- ---- numbers
+
+unfoldable pub numberText : ℕ → List ℕ
+numberText k = decimal k ++ bytes "\n"
+
+unfoldable pub countsText : ℕ → ℕ → ℕ → List ℕ
+countsText n s c = decimal n ++ bytes " entrants, " ++ decimal s ++ bytes " groups, " ++ decimal c ++ bytes " constraints\n"
+
+unfoldable pub passesText : ℕ → List ℕ
+passesText k = bytes "passes " ++ decimal k ++ bytes "\n"
+
+-- ---- of an answer: whether it is closed, and how many variables no line said
+
+unfoldable pub closedText : Bool → List ℕ
+closedText closed = cond closed (bytes "closed\n") (bytes "not closed\n")
+
+unfoldable pub unsaidText : ℕ → List ℕ
+unsaidText k = cond (eqb k 0) [] (bytes "unsaid " ++ decimal k ++ bytes "\n")
+
+unfoldable pub endingText : Bool → ℕ → List ℕ
+endingText closed k = closedText closed ++ unsaidText k
+
+-- ---- of a block: its length, and what a buffer of that length and one a byte shorter gave
+
+unfoldable pub triedText : Tried → List ℕ
+triedText t =
+    bytes "; in " ++ decimal (t .room) ++ bytes " bytes: "
+    ++ cond (eqb (t .refusal) 0) (decimal (t .length)) (bytes "refused " ++ decimal (t .refusal))
+
+-- an empty block has no shorter buffer
+unfoldable pub blockLine : ℕ → ℕ → Tried → Tried → List ℕ
+blockLine b k exact short =
+    bytes "block " ++ decimal b ++ bytes ": " ++ decimal k ++ bytes " bytes"
+    ++ triedText exact ++ cond (eqb k 0) [] (triedText short) ++ bytes "\n"
+
+unfoldable pub changedText : ℕ → List ℕ
+changedText b = bytes "block " ++ decimal b ++ bytes ": a byte past the text changed\n"
+
+-- ---- a message by value: the text over zeros
+
+abbrev pub zeros : List ℕ
+zeros = replicate 160 0
+
+unfoldable pub message : List ℕ → Message
+message text = record { length = length text; bytes = text ++ drop (length text) zeros }
+
+-- the text is a part of the bytes; both are stated, for a caller that lends `&bytes[..length]`
+abbrev pub Counted : Message → Type 0
+Counted m = (m .length ≤ length (m .bytes)) × (m .length ≡ length (take (m .length) (m .bytes)))
+
+-- with a text after it, where there is room
+unfoldable pub added : Message → List ℕ → Message
+added m text = record { length = placeAfter text (m .length) (length (m .bytes)); bytes = placed text (m .length) (m .bytes) }
+
+-- the same of the texts that a test picks
+unfoldable pub addedUnsaid : Message → ℕ → Message
+addedUnsaid m k = cond (eqb k 0) m (added (added (added m (bytes "unsaid ")) (decimal k)) (bytes "\n"))
+
+unfoldable pub addedResult : Message → Tried → Message
+addedResult m t = cond (eqb (t .refusal) 0) (added m (decimal (t .length))) (added (added m (bytes "refused ")) (decimal (t .refusal)))
+
+unfoldable pub addedTried : Message → Tried → Message
+addedTried m t = addedResult (added (added (added m (bytes "; in ")) (decimal (t .room))) (bytes " bytes: ")) t

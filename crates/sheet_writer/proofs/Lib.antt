@@ -1,0 +1,6 @@
+pub mod Writes
+pub mod Fields
+pub mod Rows
+pub mod Lengths
+pub mod RoundTrip
+pub mod Entry

@@ -1,0 +1,42 @@
+-- `short_term`: a term that is known has no text. Assumes nothing.
+use mathlib.Core.Path.{ap}
+use native.Mathlib.Omega.{arith}
+use borrow.Author.Needs.{needs}
+use lib.ListN.{length}
+use Rattle.model.specs.declared.Term.{Term}
+use Rattle.text.specs.Put.{termText}
+use Rattle.text.proofs.short_term.Statement.{statement}
+use Rattle.text.proofs.short_term.Tie as tie
+
+enum-told : tie.Need-enum-told
+enum-told c = search needs
+
+enum-told-2 : tie.Need-enum-told-2
+enum-told-2 c = search needs
+
+enum-known-t : tie.Need-enum-known-t
+enum-known-t c = search needs
+
+short-literal-requires : tie.Need-short-literal-requires
+short-literal-requires c κs = search needs
+
+returns : tie.Need-returns
+returns c = omega (arith, ap (λ (t : Term). length (termText t)) (c .enum-told .given .1))
+
+returns-2 : tie.Need-returns-2
+returns-2 c = omega (arith, ap (λ (t : Term). length (termText t)) (c .enum-told2 .given .1))
+
+returns-3 : tie.Need-returns-3
+returns-3 c = omega (arith, ap (λ (t : Term). length (termText t)) (c .before .before .t .given .1), c .short-literal .ensures)
+
+pub short-term-spec : {M : Type 1} → statement M
+short-term-spec =
+    tie.close
+    (tie.spec
+    enum-told
+    enum-told-2
+    enum-known-t
+    short-literal-requires
+    returns
+    returns-2
+    returns-3)
