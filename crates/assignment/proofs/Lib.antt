@@ -1,4 +1,1 @@
-pub mod Words
-pub mod Judged
-pub mod Taken
 pub mod Lines

@@ -1,5 +1,5 @@
 -- A whole `v` line: its form, what a refused one answers and what a taken one does. Assumes nothing.
-use Prim.Native.Nat.{ℕ, suc, _+_, _-_, _<_}
+use Prim.Native.Nat.{ℕ, _+_, _-_, _<_}
 use mathlib.Core.Path.{_≡_, refl, ap, sym, _∙_}
 use mathlib.Core.Bool.{Bool, true, false}
 use mathlib.Core.List.{List, [], _∷_}
@@ -9,47 +9,21 @@ use native.Mathlib.Omega.{arith}
 use borrow.Author.Tests.{ne-eqb}
 use lib.Dec.{eqb}
 use lib.ListN.{length, getD, take, drop}
-use lib.Seq.{take-all}
 use Rattle.model.specs.declared.Literal.{Literal}
 use Rattle.model.specs.declared.Word.{Word}
 use Rattle.model.specs.declared.Word.the-variants.{Names, Closing, Malformed}
 use Rattle.model.specs.declared.Reading.{Reading}
 use Rattle.model.specs.Assignment.{wordsOf, wordValue, Said, nothingSaid, withLiteral, sayWord, sayWords, formOf, literalsRefusal, withValues, saidRefusal, isPassedOver, callRefusal, isTaken, lineRead, valuesAfter}
-use Rattle.assignment.specs.declared.form.Form.{Form}
-use Rattle.assignment.specs.declared.form.Form.the-variants.{Wrong, Good}
-use Rattle.assignment.specs.declared.form.Shape.{Shape}
-use Rattle.assignment.specs.Line.{formFrom, formRefusal, formCount, formCloses, ifNames, named, wordsRefusal, takenBy}
-use Rattle.assignment.proofs.Words.{words-some, first-named, words-counted}
-use Rattle.assignment.proofs.Taken.{taken-good, taken-none}
+use Rattle.line_form.specs.declared.Form.{Form}
+use Rattle.line_form.specs.declared.Form.the-variants.{Wrong, Good}
+use Rattle.line_form.specs.declared.Shape.{Shape}
+use Rattle.line_form.specs.Form.{formFrom, formRefusal, formCount, formCloses}
+use Rattle.literals.specs.Line.{ifNames, named, wordsRefusal, takenBy}
+use Rattle.literals.proofs.Named.{first-named, words-counted}
+use Rattle.line_form.proofs.Forms.{alone, spaced, joined}
+use Rattle.literals.proofs.Taken.{taken-good, taken-none}
 
 -- ---- the form
-
--- `v` alone says nothing
-pub alone : (l : List ℕ) → getD l 0 0 ≡ 118 → length l ≡ 1 → formOf l ≡ some nothingSaid
-unfolding formOf
-alone [] e h = absurd (omega arith)
-alone (b ∷ []) e h = rw e
-alone (b ∷ c ∷ bs) e h = absurd (omega arith)
-
--- `v` and a space
-pub spaced : (l : List ℕ) → getD l 0 0 ≡ 118 → (length l ≡ 1 → ⊥) → 0 < length l → getD l 1 0 ≡ 32
-    → formOf l ≡ sayWords (wordsOf (take (length l - 2) (drop 2 l)))
-unfolding formOf
-spaced [] e f h g = absurd (omega arith)
-spaced (b ∷ []) e f h g = absurd (f refl)
-spaced (b ∷ c ∷ bs) e f h g =
-    let t : take (length (b ∷ c ∷ bs) - 2) bs ≡ bs = take-all (length (b ∷ c ∷ bs) - 2) bs (omega arith) in
-    rw (t, e, g)
-
--- `v` and another byte
-pub joined : (l : List ℕ) → getD l 0 0 ≡ 118 → (length l ≡ 1 → ⊥) → 0 < length l → (getD l 1 0 ≡ 32 → ⊥) → formOf l ≡ none
-unfolding formOf
-joined [] e f h g = absurd (omega arith)
-joined (b ∷ []) e f h g = absurd (f refl)
-joined (b ∷ c ∷ bs) e f h g =
-    let w = words-some bs in
-    let n : eqb (suc (suc (length (w .0)))) 1 ≡ false = ne-eqb (suc (suc (length (w .0)))) 1 (λ q. omega (arith, q)) in
-    rw (e, ne-eqb c 32 g, w .2) (rw n)
 
 -- a good form says something: so many literals, closed or not
 pub said-of : (o : Option Said) (f : Form) (g : Shape) → f ≡ formFrom o → f ≡ Good g → (s : Said) × (o ≡ some s) × (s .closed ≡ g .closed) × (length (s .literals) ≡ g .count)
@@ -63,14 +37,17 @@ pub wrong-of : (o : Option Said) (f : Form) → f ≡ formFrom o → f ≡ Wrong
 wrong-of none f e w = refl
 wrong-of (some s) f e w = let z : _≡_ {A = ℕ} 0 10 = ap formRefusal (sym e ∙ w) in absurd (omega arith)
 
+unspaced : (l : List ℕ) → getD l 0 0 ≡ 118 → getD l 0 0 ≡ 32 → ⊥
+unspaced l e q = omega arith
+
 -- a line longer than `v`, of good form, is `v`, a space and words
 pub is-spaced : (l : List ℕ) → getD l 0 0 ≡ 118 → (length l ≡ 1 → ⊥) → 0 < length l → (s : Said) → formOf l ≡ some s
     → sayWords (wordsOf (take (length l - 2) (drop 2 l))) ≡ some s
 is-spaced l e f h s q = go (ℕ-discrete (getD l 1 0) 32)
   where
     go : Dec (getD l 1 0 ≡ 32) → sayWords (wordsOf (take (length l - 2) (drop 2 l))) ≡ some s
-    go (yes g) = sym (spaced l e f h g) ∙ q
-    go (no g) = let n = joined l e f h g in let z : _≡_ {A = ℕ} 0 1 = cc in absurd (omega arith)
+    go (yes g) = sym (spaced l (unspaced l e) f h g) ∙ q
+    go (no g) = let n = joined l (unspaced l e) f h g in let z : _≡_ {A = ℕ} 0 1 = cc in absurd (omega arith)
 
 -- the literals that words say are those that they name
 pub say-named : (ws : List (List ℕ)) (s : Said) → sayWords ws ≡ some s → s .literals ≡ named ws
@@ -141,7 +118,7 @@ module _ (r : Reading) (line values : List ℕ) (first : getD line 0 0 ≡ 118) 
     pub out-alone : length line ≡ 1 → (record { refusal = 0; reading = record { closed = g .closed } } ≡ lineRead r line values) × (values ≡ valuesAfter r line values)
     unfolding nothingSaid
     out-alone h =
-        let e : nothingSaid ≡ said .0 = same (sym (alone line first h) ∙ said .1) in
+        let e : nothingSaid ≡ said .0 = same (sym (alone line (unspaced line first) h) ∙ said .1) in
         let n : said .0 .literals ≡ [] = ap (λ (x : Said). x .literals) (sym e) in
         let t = taken-line r line values first ready (said .0) (said .1) (rw n) in
         (ap (λ (b : Bool). record { refusal = 0; reading = record { closed = b } }) (sym (said .2)) ∙ t .0, ap (λ (ls : List Literal). withValues ls values) (sym n) ∙ t .1)

@@ -1,15 +1,10 @@
 // Solver lines: the form of the whole line first, then its literals one by one. A refused line changes no value.
-mod form;
-mod literals;
-
 ghost use mathlib.Core.Path.{_≡_};
 ghost use mathlib.Core.Bool.{false};
 ghost use Prim.Native.Nat.{_<_};
 ghost use lib.ListN.{length, getD};
 ghost use Rattle.model.specs.Assignment.{lineRead, valuesAfter};
-use form::Form;
-use form::line_form;
-use literals::take_literals;
+use line_form::Form;
 use model::LineRead;
 use model::Reading;
 
@@ -19,7 +14,7 @@ fn read_values(reading: Reading, line: &[u8], values: &mut [u8]) -> LineRead
     ensures { λ r. ⌜ r ≡ lineRead reading (now (line .entry)) (now (values .entry)) ⌝ }
     ensures { λ r. ⌜ now (values .exit) ≡ valuesAfter reading (now (line .entry)) (now (values .entry)) ⌝ }
 {
-    let Form::Good(shape) = line_form(line) else {
+    let Form::Good(shape) = line_form::line_form(line) else {
         return LineRead {
             refusal: 10,
             reading,
@@ -32,7 +27,7 @@ fn read_values(reading: Reading, line: &[u8], values: &mut [u8]) -> LineRead
             reading: Reading { closed },
         };
     }
-    let refusal = take_literals(&line[2..], shape.count, values);
+    let refusal = literals::take_literals(&line[2..], shape.count, values);
     if refusal != 0 {
         return LineRead { refusal, reading };
     }

@@ -117,7 +117,7 @@ fn print_block(m: Model, b: u32) -> bool {
 }
 
 fn print_blocks(m: Model) {
-    let last = cnf::block_count(m);
+    let last = blocks::block_count(m);
     let mut b: u32 = 0;
     while b <= last {
         if !print_block(m, b) {

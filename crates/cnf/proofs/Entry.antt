@@ -23,29 +23,8 @@ use Rattle.model.proofs.Refusals.{settled-rest, rest-settled, unsettled-first}
 use Rattle.propagation_laws.proofs.Ranges.{in-range}
 use Rattle.encoding_laws.proofs.Nonempty.{no-empty-clause}
 use Rattle.text.specs.Put.{Wrote}
-use Rattle.cnf.specs.Parts.{judgement, blockLength}
-
--- ---- what is judged first
-
-module _ (m : Model) (b r : ℕ) (e : r ≡ unsettledOr m 0) where
-  pub judge-unsettled : (r ≡ 0 → ⊥) → r ≡ judgement m b
-  unfolding judgement
-  judge-unsettled h = e ∙ sym (unsettled-first m (λ z. h (e ∙ z)) (stop (ltb (blockCount m) b) 23 0))
-
-  module _ (z : r ≡ 0) where
-    pub judged-range : T (inRange m)
-    judged-range = rest-settled m (sym e ∙ z) .0
-
-    after : (rest : ℕ) → unsettledOr m rest ≡ rest
-    after = settled-rest m judged-range (rest-settled m (sym e ∙ z) .1)
-
-    pub judge-23 : (k : ℕ) → k ≡ blockCount m → k < b → 23 ≡ judgement m b
-    unfolding judgement
-    judge-23 k q l = sym (after (stop (ltb (blockCount m) b) 23 0) ∙ rw (lt-ltb (blockCount m) b (omega arith)))
-
-    pub judge-0 : (k : ℕ) → k ≡ blockCount m → b ≤ k → 0 ≡ judgement m b
-    unfolding judgement
-    judge-0 k q l = sym (after (stop (ltb (blockCount m) b) 23 0) ∙ rw (le-ltb (blockCount m) b (omega arith)))
+use Rattle.blocks.specs.Blocks.{judgement}
+use Rattle.cnf.specs.Parts.{blockLength}
 
 -- ---- refused before the buffer is looked at
 

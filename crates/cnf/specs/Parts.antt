@@ -2,17 +2,16 @@
 use Prim.Native.Nat.{ℕ, suc, _+_, _≤_}
 use mathlib.Core.Bool.{Bool, true, false, cond}
 use mathlib.Core.List.{List, [], _++_, map}
-use lib.Dec.{ltb, eqb}
+use lib.Dec.{eqb}
 use lib.ListN.{length}
 use Rattle.model.specs.declared.Literal.{Literal}
 use Rattle.model.specs.declared.Literal.the-variants.{Pos, Neg}
 use Rattle.model.specs.declared.Group.{Group}
 use Rattle.model.specs.declared.Model.{Model}
-use Rattle.model.specs.Lists.{each, range, stop}
+use Rattle.model.specs.Lists.{each, range}
 use Rattle.model.specs.Limits.{limits}
 use Rattle.model.specs.Clauses.{memberClauses}
-use Rattle.model.specs.Propagate.{unsettledOr}
-use Rattle.model.specs.Cnf.{openCount, atLeast, atMost, counted, blockCount}
+use Rattle.model.specs.Cnf.{openCount, atLeast, atMost, counted}
 use Rattle.model.specs.Totalizer.{Output, up, down, putIn, shape, treeClauses, unit, totalizerClauses}
 use Rattle.model.specs.Text.{clauseText, blockText, blockRefusal}
 use Rattle.terms.specs.declared.Member.{Member}
@@ -72,7 +71,3 @@ pub record Small (t : Node) : Type 0 where
 -- "A written block returns its length", a refused one none
 unfoldable pub blockLength : Model → ℕ → ℕ → ℕ
 blockLength m b room = cond (eqb (blockRefusal m b room) 0) (length (blockText m b)) 0
-
--- the refusals that do not depend on the buffer
-unfoldable pub judgement : Model → ℕ → ℕ
-judgement m b = unsettledOr m (stop (ltb (blockCount m) b) 23 0)

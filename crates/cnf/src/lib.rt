@@ -2,14 +2,13 @@
 mod totalizer;
 
 ghost use mathlib.Core.Path.{_≡_};
-ghost use mathlib.Core.Bool.{cond};
 ghost use lib.Dec.{T, leb};
 ghost use Prim.Native.Nat.{_+_, _*_, _≤_};
 ghost use lib.ListN.{length, take};
 ghost use Rattle.model.specs.Lists.{each};
 ghost use Rattle.model.specs.Limits.{limits};
 ghost use Rattle.model.specs.Cnf.{openCount, outputsOf, constraintClauses, blockCount};
-ghost use Rattle.model.specs.Model.{constraintInRange, inRange};
+ghost use Rattle.model.specs.Model.{constraintInRange};
 ghost use Rattle.model.specs.Propagate.{Settled};
 ghost use Rattle.model.proofs.Lists.{All};
 ghost use Rattle.encoding_laws.proofs.Fixpoint.{SettledAmong};
@@ -18,7 +17,7 @@ ghost use Rattle.numbering.specs.Numbering.{firstVariables, numberingOf};
 ghost use Rattle.text.specs.Put.{Wrote};
 ghost use Rattle.terms.specs.Terms.{MembersBelow};
 ghost use Rattle.cnf.specs.Run.{runOf, runBuffer};
-ghost use Rattle.cnf.specs.Parts.{groupText, entrantText, constraintText, blockLength, judgement, Among};
+ghost use Rattle.cnf.specs.Parts.{groupText, entrantText, constraintText, blockLength, Among};
 use model::Constraint;
 use model::Group;
 use model::Model;
@@ -153,31 +152,6 @@ fn put_block(buf: &mut [u8], at: usize, m: Model, v: Numbering, b: u32) -> usize
 
 // ---- the entry
 
-// The blocks after block 0: where the listing ends; 0 for a model out of range.
-pub fn block_count(m: Model) -> u32
-    ensures { λ r. ⌜ r ≡ cond (inRange m) (blockCount m) 0 ⌝ }
-    ensures { λ r. ⌜ r ≤ limits .groups + limits .constraints ⌝ }
-{
-    if !range::in_range(m) {
-        return 0;
-    }
-    m.s + m.c
-}
-
-// Refusals 20, 22 and 23, or 0.
-fn judged(m: Model, b: u32) -> u32
-    ensures { λ r. ⌜ r ≡ judgement m b ⌝ }
-{
-    let refusal = propagate::unsettled(m);
-    if refusal != 0 {
-        return refusal;
-    }
-    if m.s + m.c < b {
-        return 23;
-    }
-    0
-}
-
 // Whether block b of a settled model fits in `left` bytes. It is measured only where some block would not.
 fn fits(m: Model, v: Numbering, b: u32, left: usize) -> bool
     requires { ⌜ Settled m × (v ≡ numberingOf m) ⌝ }
@@ -212,7 +186,7 @@ pub fn write_block(m: Model, b: u32, buf: &mut [u8]) -> Written
     ensures { λ r. ⌜ now (buf .exit) ≡ blockBuffer m b (now (buf .entry)) ⌝ }
     ensures { λ r. ⌜ (writtenRefusal r ≡ blockRefusal m b (length (now (buf .entry)))) × (writtenLength r ≡ blockLength m b (length (now (buf .entry)))) ⌝ }
 {
-    let refusal = judged(m, b);
+    let refusal = blocks::judged(m, b);
     if refusal != 0 {
         return Written::Refused(refusal);
     }
@@ -238,7 +212,7 @@ fn write_run(m: Model, b: u32, buf: &mut [u8]) -> Run
     ensures { λ r. ⌜ now (buf .exit) ≡ runBuffer m b (now (buf .entry)) ⌝ }
 {
     let v = numbering::of_model(m);
-    let last = block_count(m);
+    let last = blocks::block_count(m);
     let mut at: usize = 0;
     let mut x = b;
     while x <= last {
@@ -273,7 +247,7 @@ pub fn write_blocks(m: Model, b: u32, buf: &mut [u8]) -> Run
     ensures { λ r. ⌜ now (buf .exit) ≡ runBuffer m b (now (buf .entry)) ⌝ }
     ensures { λ r. ⌜ r .length ≤ (limits .groups + limits .constraints + 1) * limits .block ⌝ }
 {
-    let refusal = judged(m, b);
+    let refusal = blocks::judged(m, b);
     if refusal != 0 {
         return Run {
             refusal,

@@ -1,19 +1,17 @@
 -- The refusals of reading and settling decide which case of a definition is answered. Assumes nothing.
-use mathlib.Core.Path.{_≡_, refl}
+use mathlib.Core.Path.{_≡_, refl, sym, _∙_}
 use mathlib.Core.Bool.{Bool, true, false, cond}
-use mathlib.Core.List.{List, _++_}
-use Prim.Native.Nat.{ℕ, _*_, _≤_, _<_}
+use mathlib.Core.List.{List}
+use Prim.Native.Nat.{ℕ, _*_, _≤_}
 use native.Mathlib.Omega.{arith}
-use borrow.Author.Tests.{ne-eqb, eqb-false, lt-ltb, le-ltb}
-use lib.Dec.{eqb}
-use lib.ListN.{length, take, drop}
+use borrow.Author.Tests.{ne-eqb, eqb-false, lt-ltb, le-ltb, le-leb, leb-true, leb-false}
+use lib.Dec.{eqb, ltb, leb}
+use lib.ListN.{length}
 use Rattle.model.specs.declared.Group.{Group}
 use Rattle.model.specs.declared.Model.{Model}
 use Rattle.model.specs.declared.SheetRead.{SheetRead}
 use Rattle.model.specs.declared.Propagated.{Propagated}
 use Rattle.model.specs.declared.Written.the-variants.{Refused}
-use Rattle.model.specs.declared.Closed.{Closed}
-use Rattle.model.specs.Lists.{each}
 use Rattle.model.specs.Limits.{limits}
 use Rattle.model.specs.Model.{tableOf, withTable, inRange}
 use Rattle.model.specs.Sheet.{readSheet}
@@ -22,9 +20,10 @@ use Rattle.model.specs.Text.{writtenBlock, blockBuffer}
 use Rattle.model.specs.Close.{closed}
 use Rattle.model.proofs.Lists.{true-T}
 use Rattle.propagation_laws.proofs.Ranges.{in-range}
+use Rattle.cnf.specs.declared.Run.{Run}
 use Rattle.cnf.specs.Run.{runOf, runBuffer}
-use Rattle.words.specs.Words.{groupWords}
-use Rattle.exports.specs.Draw.{numbered, settledSheet, fitted, settleNumber, tableAfter, sheetBlock, writtenNumber, drawBlock, drawBuffer, sheetRun, runNumber, drawBlocks, drawRun, readingOf, noGroups, closedSheet, fittedClosing, groupsAfter}
+use Rattle.packing.specs.Packing.{numbered, writtenNumber, runNumber, noGroups, hasRoom, groupsLaid}
+use Rattle.exports.specs.Draw.{settledSheet, fitted, settleNumber, tableAfter, sheetBlock, drawBlock, drawBuffer, sheetRun, drawBlocks, drawRun, readingOf, closedSheet}
 
 -- ---- the reader's refusal comes first
 
@@ -72,23 +71,34 @@ module _ (p : Propagated) (table : List ℕ) where
   pub refused-table : (p .refusal ≡ 0 → ⊥) → table ≡ tableAfter (fitted (length table) p) table
   refused-table h = rw (unfit h, ne-eqb (p .refusal) 0 h)
 
-  module _ (z : p .refusal ≡ 0) where
-    pub short-number : length table < 4 * p .model .s → numbered 24 0 ≡ settleNumber (fitted (length table) p)
-    unfolding fitted refusedPropagation
-    short-number h = rw (z, lt-ltb (length table) (4 * p .model .s) h)
+  module _ (z : p .refusal ≡ 0) (few : p .model .s ≤ limits .groups) where
+    room-is : hasRoom (p .model .s) (length table) ≡ leb (4 * p .model .s) (length table)
+    unfolding hasRoom
+    room-is = rw (le-leb (p .model .s) (limits .groups) few)
 
-    pub short-table : length table < 4 * p .model .s → table ≡ tableAfter (fitted (length table) p) table
-    unfolding fitted refusedPropagation
-    short-table h = rw (z, lt-ltb (length table) (4 * p .model .s) h)
+    module _ (h : hasRoom (p .model .s) (length table) ≡ false) where
+      short : ltb (length table) (4 * p .model .s) ≡ true
+      short = lt-ltb (length table) (4 * p .model .s) (leb-false (4 * p .model .s) (length table) (sym room-is ∙ h))
 
-    pub laid-number : 4 * p .model .s ≤ length table → numbered (p .refusal) (p .passes) ≡ settleNumber (fitted (length table) p)
-    unfolding fitted
-    laid-number h = rw (z, le-ltb (length table) (4 * p .model .s) h)
+      pub short-number : numbered 24 0 ≡ settleNumber (fitted (length table) p)
+      unfolding fitted refusedPropagation
+      short-number = rw (z, short)
 
-    pub laid-table : 4 * p .model .s ≤ length table
-        → each groupWords (take (p .model .s) (p .model .groups)) ++ drop (4 * p .model .s) table ≡ tableAfter (fitted (length table) p) table
-    unfolding fitted tableOf
-    laid-table h = rw (z, le-ltb (length table) (4 * p .model .s) h)
+      pub short-table : groupsLaid (p .model .groups) (p .model .s) table ≡ tableAfter (fitted (length table) p) table
+      unfolding fitted refusedPropagation groupsLaid
+      short-table = rw (h, z, short)
+
+    module _ (h : hasRoom (p .model .s) (length table) ≡ true) where
+      long : ltb (length table) (4 * p .model .s) ≡ false
+      long = le-ltb (length table) (4 * p .model .s) (leb-true (4 * p .model .s) (length table) (sym room-is ∙ h))
+
+      pub laid-number : numbered (p .refusal) (p .passes) ≡ settleNumber (fitted (length table) p)
+      unfolding fitted
+      laid-number = rw (z, long)
+
+      pub laid-table : groupsLaid (p .model .groups) (p .model .s) table ≡ tableAfter (fitted (length table) p) table
+      unfolding fitted tableOf groupsLaid
+      laid-table = rw (h, z, long)
 
 -- ---- what a block, a run of blocks and closing answer
 
@@ -127,9 +137,9 @@ module _ (b : List ℕ) (p : Propagated) (e : p ≡ settledSheet b) where
     unfolding drawBuffer
     buffer-written block buffer = rw (← e, z)
 
-    pub run-written : (block room : ℕ) → runNumber (runOf (p .model) block room) ≡ drawBlocks b block room
+    pub run-written : (block room : ℕ) (r : Run) → r ≡ runOf (p .model) block room → runNumber (r .refusal) (r .next) (r .length) ≡ drawBlocks b block room
     unfolding drawBlocks sheetRun
-    run-written block room = rw (← e, z)
+    run-written block room r q = rw (← e, z, q)
 
     pub run-laid : (block : ℕ) (buffer : List ℕ) → runBuffer (p .model) block buffer ≡ drawRun b block buffer
     unfolding drawRun
@@ -138,33 +148,3 @@ module _ (b : List ℕ) (p : Propagated) (e : p ≡ settledSheet b) where
     pub closing : (flag : ℕ) (values : List ℕ) → closed (p .model) (readingOf flag) values ≡ closedSheet b flag values
     unfolding closedSheet
     closing flag values = rw (← e, z)
-
--- ---- closing, for a slice of so many words
-
-module _ (a : Closed) (groups : List ℕ) where
-  unfit-closing : (a .refusal ≡ 0 → ⊥) → fittedClosing (length groups) a ≡ a
-  unfolding fittedClosing
-  unfit-closing h = rw (ne-eqb (a .refusal) 0 h)
-
-  pub refused-closing : (a .refusal ≡ 0 → ⊥) → a .refusal ≡ fittedClosing (length groups) a .refusal
-  refused-closing h = rw (unfit-closing h)
-
-  pub refused-groups : (a .refusal ≡ 0 → ⊥) → groups ≡ groupsAfter (fittedClosing (length groups) a) groups
-  refused-groups h = rw (unfit-closing h, ne-eqb (a .refusal) 0 h)
-
-  module _ (z : a .refusal ≡ 0) where
-    pub short-closing : length groups < limits .groups → 24 ≡ fittedClosing (length groups) a .refusal
-    unfolding fittedClosing
-    short-closing h = rw (z, lt-ltb (length groups) (limits .groups) h)
-
-    pub short-groups : length groups < limits .groups → groups ≡ groupsAfter (fittedClosing (length groups) a) groups
-    unfolding fittedClosing
-    short-groups h = rw (z, lt-ltb (length groups) (limits .groups) h)
-
-    pub laid-closing : limits .groups ≤ length groups → a .refusal ≡ fittedClosing (length groups) a .refusal
-    unfolding fittedClosing
-    laid-closing h = rw (z, le-ltb (length groups) (limits .groups) h)
-
-    pub laid-groups : limits .groups ≤ length groups → a .groups ++ drop (limits .groups) groups ≡ groupsAfter (fittedClosing (length groups) a) groups
-    unfolding fittedClosing
-    laid-groups h = rw (z, le-ltb (length groups) (limits .groups) h)

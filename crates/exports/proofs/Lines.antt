@@ -1,4 +1,5 @@
 -- A solver line's refusal is at most 25, so that twice it and 1 fit. Assumes nothing.
+use mathlib.Core.Path.{_≡_}
 use mathlib.Core.Bool.{Bool, true, false, not}
 use mathlib.Core.List.{List, [], _∷_}
 use mathlib.Core.Option.{Option, none, some}
@@ -8,8 +9,10 @@ use lib.Dec.{ltb, eqb}
 use lib.ListN.{length, getD}
 use Rattle.model.specs.declared.Literal.{Literal}
 use Rattle.model.specs.declared.Reading.{Reading}
+use Rattle.model.specs.declared.LineRead.{LineRead}
 use Rattle.model.specs.Lists.{stop}
 use Rattle.model.specs.Assignment.{Said, formOf, isSaid, variable, withValue, literalsRefusal, saidRefusal, isPassedOver, callRefusal, lineRead}
+use Rattle.packing.specs.Packing.{lineNumber}
 
 stop-small : (x : Bool) (r rest : ℕ) → r ≤ 25 → rest ≤ 25 → stop x r rest ≤ 25
 stop-small true r rest h k = h
@@ -25,9 +28,16 @@ said-small : (s : Option Said) (values : List ℕ) → saidRefusal s values ≤ 
 said-small none values = omega arith
 said-small (some s) values = literals-small (s .literals) values
 
-pub line-small : (r : Reading) (line values : List ℕ) → lineRead r line values .refusal ≤ 25
+read-small : (r : Reading) (line values : List ℕ) → lineRead r line values .refusal ≤ 25
 unfolding lineRead callRefusal
-line-small r line values =
+read-small r line values =
     stop-small (isPassedOver line) 0 _ (omega arith)
     (stop-small (not (eqb (getD line 0 0) 118)) 10 _ (omega arith)
     (stop-small (r .closed) 25 _ (omega arith) (said-small (formOf line) values)))
+
+pub line-small : (r : Reading) (line values : List ℕ) (x : LineRead) → x ≡ lineRead r line values → lineNumber (x .refusal) (x .reading .closed) ≤ 51
+line-small r line values x e = rw e (go (lineRead r line values .refusal) (lineRead r line values .reading .closed) (read-small r line values))
+  where
+    go : (n : ℕ) (b : Bool) → n ≤ 25 → lineNumber n b ≤ 51
+    go n true h = omega arith
+    go n false h = omega arith

@@ -1,31 +1,26 @@
 -- What the exported functions answer, each as one number, and what they leave in the slices lent to them.
-use Prim.Native.Nat.{ℕ, _+_, _*_}
+use Prim.Native.Nat.{ℕ, _*_}
 use mathlib.Core.Bool.{cond, not, _&&_}
 use mathlib.Core.List.{List, _++_}
 use lib.Dec.{ltb, eqb}
-use lib.ListN.{length, drop, replicate}
+use lib.ListN.{length, drop}
 use Rattle.model.specs.declared.Propagated.{Propagated}
 use Rattle.model.specs.declared.Written.{Written}
 use Rattle.model.specs.declared.Written.the-variants.{Refused}
 use Rattle.model.specs.declared.Reading.{Reading}
-use Rattle.model.specs.declared.LineRead.{LineRead}
 use Rattle.model.specs.declared.Closed.{Closed}
 use Rattle.model.specs.Lists.{each}
-use Rattle.model.specs.Limits.{limits}
 use Rattle.model.specs.Model.{tableOf}
 use Rattle.model.specs.Sheet.{readSheet}
 use Rattle.model.specs.Propagate.{propagated, refusedPropagation}
-use Rattle.model.specs.Text.{writtenBlock, blockBuffer, writtenRefusal, writtenLength}
+use Rattle.model.specs.Text.{writtenBlock, blockBuffer}
 use Rattle.model.specs.SheetText.{writtenSheet}
 use Rattle.model.specs.Assignment.{lineRead}
 use Rattle.model.specs.Close.{closed}
 use Rattle.cnf.specs.declared.Run.{Run}
 use Rattle.cnf.specs.Run.{runOf, runBuffer}
-use Rattle.words.specs.Words.{groupWords, modelFrom}
-
--- a refusal and a line, or a refusal and passes, in one number
-abbrev pub numbered : ℕ → ℕ → ℕ
-numbered refusal k = refusal * 65536 + k
+use Rattle.words.specs.Words.{modelFrom}
+use Rattle.packing.specs.Packing.{numbered, writtenNumber, runNumber, lineNumber, groupWords, noGroups, fittedClosing, groupsAfter}
 
 -- ---- reading
 
@@ -71,10 +66,6 @@ sheetBlock sheet block room =
     let p = settledSheet sheet in
     cond (eqb (p .refusal) 0) (writtenBlock (p .model) block room) (Refused (p .refusal))
 
--- a refusal and a length in one number
-abbrev pub writtenNumber : Written → ℕ
-writtenNumber w = writtenRefusal w * 4294967296 + writtenLength w
-
 unfoldable pub drawBlock : List ℕ → ℕ → ℕ → ℕ
 drawBlock sheet block room = writtenNumber (sheetBlock sheet block room)
 
@@ -98,12 +89,8 @@ sheetRun sheet block room =
     let p = settledSheet sheet in
     cond (eqb (p .refusal) 0) (runOf (p .model) block room) (record { refusal = p .refusal; next = block; length = 0 })
 
--- the next block, which is never 0, and the text's length in one number; or the refusal
-abbrev pub runNumber : Run → ℕ
-runNumber r = cond (eqb (r .refusal) 0) (r .next * 4294967296 + r .length) (r .refusal)
-
 unfoldable pub drawBlocks : List ℕ → ℕ → ℕ → ℕ
-drawBlocks sheet block room = runNumber (sheetRun sheet block room)
+drawBlocks sheet block room = let r = sheetRun sheet block room in runNumber (r .refusal) (r .next) (r .length)
 
 unfoldable pub drawRun : List ℕ → ℕ → List ℕ → List ℕ
 drawRun sheet block buffer =
@@ -116,25 +103,10 @@ drawRun sheet block buffer =
 abbrev pub readingOf : ℕ → Reading
 readingOf closed = record { closed = not (eqb closed 0) }
 
--- a refusal, and 1 where the reading is closed
-abbrev pub lineNumber : LineRead → ℕ
-lineNumber r = r .refusal * 2 + cond (r .reading .closed) 1 0
-
 unfoldable pub drawLine : ℕ → List ℕ → List ℕ → ℕ
-drawLine closed line values = lineNumber (lineRead (readingOf closed) line values)
+drawLine closed line values = let r = lineRead (readingOf closed) line values in lineNumber (r .refusal) (r .reading .closed)
 
 -- ---- closing on the settled sheet
-
-abbrev pub noGroups : ℕ → Closed
-noGroups refusal = record { refusal = refusal; groups = replicate (limits .groups) 0 }
-
--- the answer for a slice of so many words: one without room for the groups is 24
-unfoldable pub fittedClosing : ℕ → Closed → Closed
-fittedClosing room a = cond (eqb (a .refusal) 0 && ltb room (limits .groups)) (noGroups 24) a
-
--- the groups at the front; a refusal leaves the slice
-abbrev pub groupsAfter : Closed → List ℕ → List ℕ
-groupsAfter a groups = cond (eqb (a .refusal) 0) (a .groups ++ drop (limits .groups) groups) groups
 
 unfoldable pub closedSheet : List ℕ → ℕ → List ℕ → Closed
 closedSheet sheet flag values =

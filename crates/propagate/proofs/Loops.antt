@@ -17,7 +17,8 @@ use Rattle.model.specs.Words.{full}
 use Rattle.model.specs.Clauses.{memberClauses, ofGroup, clausesOf}
 use Rattle.model.specs.Propagate.{groupRuleAt, falseIn, allFalse, madeTrue, literalRule, run, clauseRules, clauseRule, constraintRule}
 use Rattle.model.proofs.Words.{entrants-full}
-use Rattle.propagate.specs.Flat.{zipped, Whole, Changes, Acts, AllFalse, LiteralStands, clauseOf, ClauseStands}
+use Rattle.table.specs.Table.{zipped, Whole}
+use Rattle.propagate.specs.Flat.{Changes, Acts, AllFalse, LiteralStands, clauseOf, ClauseStands}
 
 -- ---- groups i + 1 to s
 

@@ -19,13 +19,14 @@ use Rattle.model.specs.Lists.{every, range, onPlace, between, distinct}
 use Rattle.model.specs.Limits.{limits}
 use Rattle.model.specs.Words.{full}
 use Rattle.model.specs.Clauses.{memberCount, memberClauses, ofGroup, groupsOf, clausesOf}
-use Rattle.model.specs.Model.{zeroGroup, groupAt, withTable, tableOf, constraintsOf, codeInRange, constraintInRange, inRange}
+use Rattle.model.specs.Model.{zeroGroup, groupAt, tableOf, constraintsOf, codeInRange, constraintInRange, inRange}
 use Rattle.model.specs.Propagate.{groupRule, groupRuleAt, falseIn, allFalse, fixedWith, possibleWithout, madeTrue, literalRule, run, clauseRules, clauseRule, constraintRule, rules, pass, consistent, sameTable, Outcome, contradiction, fixpoint, afterPass, iterate, outcome, refusedPropagation, propagatedAs, propagated, isFixpoint, unsettledOr}
 use Rattle.model.specs.Assignment.{variable}
 use Rattle.model.proofs.Lists.{T-true, true-T, between-le, le-between, All, all-append, all-map, all-imp, all-every, every-all, and-left, and-right, and-both, place-append, place-length}
 use Rattle.model.proofs.Codes.{by-entrant, members-below}
 use Rattle.propagation_laws.proofs.Ranges.{constraint-code, groups-in, member-below, InRange, in-range}
-use Rattle.propagate.specs.Flat.{Whole, Changes}
+use Rattle.table.specs.Table.{Whole}
+use Rattle.propagate.specs.Flat.{Changes}
 
 -- ---- the rules of a pass, on all places
 
@@ -270,15 +271,6 @@ passes-few m = go (inRange m) (outcome m) (made-few consistent sameTable (pass m
         → cond b (propagatedAs m o) (refusedPropagation 20 m) .passes ≤ 2 * m .s * m .n + 1
     go true o h = by-outcome o h
     go false o h = omega arith
-
-pub answered : (k : ℕ) (m : Model) (t gs : List Group) → gs ≡ t ++ drop (m .s) (m .groups)
-    → _≡_ {A = Propagated} (record {
-      refusal = 0;
-      passes = k;
-      model = record { n = m .n; s = m .s; c = m .c; groups = gs; constraints = m .constraints };
-    }) (propagatedAs m (fixpoint k t))
-unfolding withTable
-answered k m t gs e = rw e
 
 -- ---- one pass, as the code makes it: a are the groups of the model in the arrays, b the groups after it
 

@@ -1,7 +1,7 @@
--- The table of groups as four arrays, which is how the code keeps it, and what a rule does to them.
+-- What a rule does to the table of groups as four arrays.
 use Prim.Native.Nat.{ℕ, _≤_, _<_}
 use mathlib.Core.Path.{_≡_}
-use mathlib.Core.List.{List, [], _∷_}
+use mathlib.Core.List.{List, []}
 use lib.ListN.{length, getD}
 use Rattle.model.specs.declared.Literal.{Literal}
 use Rattle.model.specs.declared.Literal.the-variants.{Pos, Neg}
@@ -10,25 +10,7 @@ use Rattle.model.specs.declared.Constraint.{Constraint}
 use Rattle.model.specs.Limits.{limits}
 use Rattle.model.specs.Clauses.{memberClauses}
 use Rattle.model.specs.Propagate.{allFalse}
-use Rattle.propagate.specs.declared.Table.{Table}
-
-abbrev pub group : ℕ → ℕ → ℕ → ℕ → Group
-group f p l h = record { fixed = f; possible = p; low = l; high = h }
-
--- the groups that stand at each place of four lists
-unfoldable pub zipped : List ℕ → List ℕ → List ℕ → List ℕ → List Group
-zipped [] ps ls hs = []
-zipped (f ∷ fs) [] ls hs = []
-zipped (f ∷ fs) (p ∷ ps) [] hs = []
-zipped (f ∷ fs) (p ∷ ps) (l ∷ ls) [] = []
-zipped (f ∷ fs) (p ∷ ps) (l ∷ ls) (h ∷ hs) = group f p l h ∷ zipped fs ps ls hs
-
-unfoldable pub groupsIn : Table → List Group
-groupsIn t = zipped (t .fixed) (t .possible) (t .low) (t .high)
-
--- every place is there
-abbrev pub Whole : List Group → Type 0
-Whole t = length t ≡ limits .groups
+use Rattle.table.specs.Table.{zipped, Whole}
 
 -- the groups t become u as the rule says
 abbrev pub Changes : (List Group → List Group) → List Group → List Group → Type 0

@@ -34,7 +34,8 @@ use Rattle.propagation_laws.proofs.Meaning.{literalFor, clausesFor}
 use Rattle.encoding_laws.proofs.Fixpoint.{SettledAmong, table-settled}
 use Rattle.encoding_laws.proofs.Row.{rowWord, row-size}
 use Rattle.encoding_laws.proofs.Whole.{OpenLimits, limits-of, counted-pos, uncounted, open-apart, open-lt, fixed-lt, member-true, constraint-entrants}
-use Rattle.solution.specs.Holds.{inGroup, wordOf, wordAt, tableWords, groupHolds, groupHoldsAt, literalWord, clauseWord, clauseHolds, constraintHolds, clausesHold}
+use Rattle.constraint_clauses.specs.Holds.{literalWord, clauseWord, clauseHolds}
+use Rattle.solution.specs.Holds.{inGroup, wordOf, wordAt, tableWords, groupHolds, groupHoldsAt, constraintHolds, clausesHold}
 
 -- ---- a group that is at its fixpoint
 

@@ -1,17 +1,14 @@
 -- What the closing call works out: each group's word, and whether a group's and a constraint's clauses hold.
 use Prim.Native.Nat.{ℕ, _+_, _-_, _%_, _^_}
 use mathlib.Core.Bool.{Bool, true, cond, Bool·beq, _&&_, _||_}
-use mathlib.Core.List.{List, [], _∷_, _++_, map}
-use lib.Bits.{bitOr}
+use mathlib.Core.List.{List, _++_, map}
 use lib.Dec.{ltb}
-use lib.ListN.{getD, replicate}
-use Rattle.model.specs.declared.Literal.{Literal}
-use Rattle.model.specs.declared.Literal.the-variants.{Pos, Neg}
+use lib.ListN.{replicate}
 use Rattle.model.specs.declared.Group.{Group}
 use Rattle.model.specs.declared.Constraint.{Constraint}
 use Rattle.model.specs.declared.Closed.{Closed}
 use Rattle.model.specs.Lists.{every, total, range, between}
-use Rattle.model.specs.Words.{full, less, size, inside, has, wordWhere}
+use Rattle.model.specs.Words.{full, size, has, wordWhere}
 use Rattle.model.specs.Limits.{limits}
 use Rattle.model.specs.Clauses.{memberClauses}
 use Rattle.model.specs.Model.{groupAt}
@@ -19,6 +16,7 @@ use Rattle.model.specs.Totalizer.{shape, treeClauses}
 use Rattle.model.specs.Cnf.{openOf, openCount, counted, firstVariable, firstOutput}
 use Rattle.model.specs.Solution.{setOf}
 use Rattle.model.specs.Close.{truth, clauseTrue}
+use Rattle.constraint_clauses.specs.Holds.{clauseHolds}
 
 -- ---- a group's word
 
@@ -62,21 +60,7 @@ groupHoldsAt a t d g = groupHolds a (groupAt t g) (setOf d g) (firstVariable t g
 
 -- ---- a constraint's clauses, for all entrants at once
 
--- the entrants of w for whom a literal of a member holds, where the words are d and the members' groups ids
-abbrev pub literalWord : List ℕ → List ℕ → ℕ → Literal → ℕ
-literalWord d ids w (Pos i) = setOf d (getD ids i 0)
-literalWord d ids w (Neg i) = less w (setOf d (getD ids i 0))
-
--- those of x, and those for whom one of the literals holds
-abbrev pub clauseWord : List ℕ → List ℕ → ℕ → ℕ → List Literal → ℕ
-clauseWord d ids w x [] = x
-clauseWord d ids w x (l ∷ ls) = clauseWord d ids w (bitOr x (literalWord d ids w l)) ls
-
--- a clause holds for every entrant of w
-unfoldable pub clauseHolds : List ℕ → List ℕ → ℕ → List Literal → Bool
-clauseHolds d ids w c = inside w (clauseWord d ids w 0 c)
-
--- so do all of a constraint's
+-- each clause holds
 unfoldable pub constraintHolds : List ℕ → ℕ → Constraint → Bool
 constraintHolds d w c = every (clauseHolds d (c .groups) w) (memberClauses (c .code) (c .count))
 

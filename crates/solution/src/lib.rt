@@ -1,6 +1,5 @@
 // Closing: whether the values satisfy every clause, and the groups that they say. The last step of the chain.
 // A totalizer's outputs are compared with the count of its leaves, and a constraint's clauses are judged for all entrants at once.
-mod constraint_clauses;
 mod group_clauses;
 
 ghost use mathlib.Core.Path.{_≡_};
@@ -11,8 +10,7 @@ ghost use Rattle.model.specs.Limits.{limits};
 ghost use Rattle.model.specs.Assignment.{isSaid};
 ghost use Rattle.model.specs.Close.{assignmentOf, closed};
 ghost use Rattle.numbering.specs.Numbering.{firstVariables, firstOutputs};
-ghost use Rattle.solution.specs.Holds.{clausesHold, refusedClosing};
-use constraint_clauses::constraints_hold;
+ghost use Rattle.solution.specs.Holds.{constraintHolds, clausesHold, refusedClosing};
 use group_clauses::groups_hold;
 use group_clauses::words;
 use model::Closed;
@@ -35,6 +33,28 @@ fn all_said(values: &[u8]) -> bool
             return false;
         }
         i += 1;
+    }
+    true
+}
+
+// The clauses of the first c constraints.
+fn constraints_hold(
+    words: [u64; Model::GROUPS],
+    constraints: [Constraint; Model::CONSTRAINTS],
+    c: usize,
+    all: u64,
+) -> bool
+    requires { ⌜ c ≤ limits .constraints ⌝ }
+    ensures { λ r. ⌜ r ≡ every (constraintHolds words all) (take c constraints) ⌝ }
+{
+    let mut j: usize = 0;
+    while j < c {
+        let l = constraints[j];
+        let ids = l.groups;
+        if !constraint_clauses::constraint_holds(words, ids, all, l.code, l.count) {
+            return false;
+        }
+        j += 1;
     }
     true
 }

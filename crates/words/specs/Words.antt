@@ -1,15 +1,12 @@
 -- A model as words: n, s, c, then four words for each group and nineteen for each constraint, all of them, used or not.
 use Prim.Native.Nat.{ℕ, _+_, _*_, _%_, _^_}
-use mathlib.Core.List.{List, [], _∷_, map}
+use mathlib.Core.List.{List, map}
 use lib.ListN.{getD}
 use Rattle.model.specs.declared.Group.{Group}
 use Rattle.model.specs.declared.Constraint.{Constraint}
 use Rattle.model.specs.declared.Model.{Model}
 use Rattle.model.specs.Lists.{range}
 use Rattle.model.specs.Limits.{limits}
-
-abbrev pub groupWords : Group → List ℕ
-groupWords g = g .fixed ∷ g .possible ∷ g .low ∷ g .high ∷ []
 
 -- a word that is missing is 0
 abbrev pub wordAt : List ℕ → ℕ → ℕ

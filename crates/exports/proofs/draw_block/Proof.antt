@@ -2,7 +2,7 @@
 use native.Mathlib.Omega.{arith}
 use mathlib.Core.Path.{ap, _∙_}
 use lib.ListN.{length}
-use Rattle.exports.specs.Draw.{writtenNumber}
+use Rattle.packing.specs.Packing.{writtenNumber}
 use Rattle.exports.proofs.Cases.{block-refused, buffer-left, block-written, buffer-written}
 use borrow.Author.Needs.{needs}
 use Rattle.exports.proofs.draw_block.Statement.{statement}

@@ -4,7 +4,8 @@ use lib.ListN.{length}
 use Rattle.model.specs.declared.Model.{Model}
 use Rattle.model.specs.declared.Written.{Written}
 use Rattle.model.specs.Text.{writtenBlock, blockBuffer}
-use Rattle.exports.specs.Draw.{writtenNumber, modelBlock}
+use Rattle.packing.specs.Packing.{writtenNumber}
+use Rattle.exports.specs.Draw.{modelBlock}
 use borrow.Author.Needs.{needs}
 use Rattle.exports.proofs.draw_block_model.Statement.{statement}
 use Rattle.exports.proofs.draw_block_model.Tie as tie

@@ -2,7 +2,8 @@
 use mathlib.Core.Path.{ap, _∙_}
 use lib.ListN.{length}
 use Rattle.model.specs.declared.Closed.{Closed}
-use Rattle.exports.specs.Draw.{fittedClosing, groupsAfter, drawClose, drawGroups}
+use Rattle.packing.specs.Packing.{fittedClosing, groupsAfter}
+use Rattle.exports.specs.Draw.{drawClose, drawGroups}
 use borrow.Author.Needs.{needs}
 use Rattle.exports.proofs.draw_close.Statement.{statement}
 use Rattle.exports.proofs.draw_close.Tie as tie

@@ -4,7 +4,8 @@ use lib.ListN.{length}
 use Rattle.model.specs.declared.Closed.{Closed}
 use Rattle.model.specs.declared.Model.{Model}
 use Rattle.model.specs.Close.{closed}
-use Rattle.exports.specs.Draw.{readingOf, fittedClosing, groupsAfter, modelClose, modelGroups}
+use Rattle.packing.specs.Packing.{fittedClosing, groupsAfter}
+use Rattle.exports.specs.Draw.{readingOf, modelClose, modelGroups}
 use borrow.Author.Needs.{needs}
 use Rattle.exports.proofs.draw_close_model.Statement.{statement}
 use Rattle.exports.proofs.draw_close_model.Tie as tie

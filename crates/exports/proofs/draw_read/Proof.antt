@@ -1,7 +1,8 @@
 -- `draw_read` has the reader's refusal and line in one number. Assumes nothing.
 use mathlib.Core.Path.{ap, _∙_}
 use Rattle.model.specs.declared.SheetRead.{SheetRead}
-use Rattle.exports.specs.Draw.{numbered, drawRead}
+use Rattle.packing.specs.Packing.{numbered}
+use Rattle.exports.specs.Draw.{drawRead}
 use borrow.Author.Needs.{needs}
 use Rattle.exports.proofs.draw_read.Statement.{statement}
 use Rattle.exports.proofs.draw_read.Tie as tie

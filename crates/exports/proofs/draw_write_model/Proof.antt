@@ -4,7 +4,8 @@ use lib.ListN.{length}
 use Rattle.model.specs.declared.Model.{Model}
 use Rattle.model.specs.declared.Written.{Written}
 use Rattle.model.specs.SheetText.{writtenSheet, sheetBuffer}
-use Rattle.exports.specs.Draw.{writtenNumber, modelSheet}
+use Rattle.packing.specs.Packing.{writtenNumber}
+use Rattle.exports.specs.Draw.{modelSheet}
 use borrow.Author.Needs.{needs}
 use Rattle.exports.proofs.draw_write_model.Statement.{statement}
 use Rattle.exports.proofs.draw_write_model.Tie as tie

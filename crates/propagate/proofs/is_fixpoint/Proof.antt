@@ -21,25 +21,23 @@ passed-requires c κs =
     let u = c .before .unpacked .ensures in
     (whole-read _ _ (u .0) (u .1), (s-few m t, (c-few m t, (constraints-stand m t, n-few m t))))
 
-table-consistent-requires : tie.Need-table-consistent-requires
-table-consistent-requires c κs = (c .passed .ensures .0, s-few (c .before .before .before .before .before .before .args .m) (c .before .before .before .before .before .before .pre))
+is-consistent-requires : tie.Need-is-consistent-requires
+is-consistent-requires c κs = search needs
 
 returns : tie.Need-returns
 returns c =
     let u = c .before .before .before .before .unpacked .ensures in
-    contradicts (c .before .before .before .before .before .before .before .before .args .m) (c .before .before .before .before .before .before .before .before .pre) _ _ (whole-read _ _ (u .0) (u .1)) (u .1) (c .before .before .passed .ensures .1) _ (c .before .table-consistent .ensures) (not-true _ (c .if1 .taken))
+    contradicts (c .before .before .before .before .before .before .before .before .args .m) (c .before .before .before .before .before .before .before .before .pre) _ _ (whole-read _ _ (u .0) (u .1)) (u .1) (c .before .before .passed .ensures .1) _ (c .before .is-consistent .ensures) (not-true _ (c .if1 .taken))
 
-same-table-requires : tie.Need-same-table-requires
-same-table-requires c κs =
-    let u = c .before .before .before .before .unpacked .ensures in
-    (c .before .before .passed .ensures .0, (whole-read _ _ (u .0) (u .1), s-few (c .before .before .before .before .before .before .before .before .args .m) (c .before .before .before .before .before .before .before .before .pre)))
+is-same-requires : tie.Need-is-same-requires
+is-same-requires c κs = search needs
 
 returns-2 : tie.Need-returns-2
 returns-2 c =
     let u = c .before .before .before .before .before .unpacked .ensures in
-    compares (c .before .before .before .before .before .before .before .before .before .args .m) (c .before .before .before .before .before .before .before .before .before .pre) _ _ (whole-read _ _ (u .0) (u .1)) (u .1) (c .before .before .before .passed .ensures .1) _ (c .before .before .table-consistent .ensures)
-    (not-false _ (c .before .if1 .left)) _ (c .same-table .ensures)
+    compares (c .before .before .before .before .before .before .before .before .before .args .m) (c .before .before .before .before .before .before .before .before .before .pre) _ _ (whole-read _ _ (u .0) (u .1)) (u .1) (c .before .before .before .passed .ensures .1) _ (c .before .before .is-consistent .ensures)
+    (not-false _ (c .before .if1 .left)) _ (c .is-same .ensures)
 
 pub is-fixpoint-spec : {M : Type 1} → statement M
 is-fixpoint-spec =
-    tie.close (tie.spec cast-s unpacked-requires cast-passed passed-requires table-consistent-requires returns same-table-requires returns-2)
+    tie.close (tie.spec cast-s unpacked-requires cast-passed passed-requires is-consistent-requires returns is-same-requires returns-2)

@@ -1,7 +1,7 @@
 -- `passed` makes a pass over the arrays. Assumes nothing.
 use lib.ListN.{take}
 use borrow.Author.Needs.{needs}
-use Rattle.propagate.specs.Flat.{groupsIn}
+use Rattle.table.specs.Table.{groupsIn}
 use Rattle.propagate.proofs.Passes.{pass-made}
 use Rattle.propagate.proofs.passed.Statement.{statement}
 use Rattle.propagate.proofs.passed.Tie as tie

@@ -3,7 +3,7 @@ use Prim.Native.Nat.{_-_}
 use mathlib.Core.Path.{_≡_}
 use lib.ListN.{take}
 use Rattle.model.specs.Propagate.{outcome}
-use Rattle.propagate.specs.Flat.{groupsIn, Whole}
+use Rattle.table.specs.Table.{groupsIn, Whole}
 use Rattle.propagate.proofs.Passes.{s-few, n-few, c-few, constraints-stand, range-false, range-true, whole-read, fuel-fits, Left, first-left, refused-20, refused-21, refused-at-end, at-fixpoint, pass-more}
 use native.Mathlib.Omega.{arith}
 use borrow.Author.Needs.{needs}
@@ -53,29 +53,29 @@ passed-requires c κs = ((c .before .loop .inv .0), (s-few ((c .before .before .
 add-k : tie.Need-add-k Inv-loop μ-loop
 add-k c = omega (arith, fuel-fits ((c .before .before .before .before .before .before .before .before .before .before .before .before .args .m)) (range-true ((c .before .before .before .before .before .before .before .before .before .before .before .before .args .m)) _ ((c .before .before .before .before .before .before .before .before .before .before .before .in-range .ensures)) (not-false _ ((c .before .before .before .before .before .before .before .before .before .before .if1 .left)))))
 
-table-consistent-requires : tie.Need-table-consistent-requires Inv-loop μ-loop
-table-consistent-requires c κs = (omega (arith, c .passed .ensures .0, c .before .before .loop .inv .0), s-few ((c .before .before .before .before .before .before .before .before .before .before .before .before .args .m)) (range-true ((c .before .before .before .before .before .before .before .before .before .before .before .before .args .m)) _ ((c .before .before .before .before .before .before .before .before .before .before .before .in-range .ensures)) (not-false _ ((c .before .before .before .before .before .before .before .before .before .before .if1 .left)))))
+is-consistent-requires : tie.Need-is-consistent-requires Inv-loop μ-loop
+is-consistent-requires c κs = search needs
 
 refused-requires-2 : tie.Need-refused-requires-2 Inv-loop μ-loop
 refused-requires-2 c κs = search needs
 
 returns-2 : tie.Need-returns-2 Inv-loop μ-loop
-returns-2 c = refused-21 ((c .before .before .before .before .before .before .before .before .before .before .before .before .before .before .before .args .m)) (range-true ((c .before .before .before .before .before .before .before .before .before .before .before .before .before .before .before .args .m)) _ ((c .before .before .before .before .before .before .before .before .before .before .before .before .before .before .in-range .ensures)) (not-false _ ((c .before .before .before .before .before .before .before .before .before .before .before .before .before .if1 .left)))) ((c .before .before .before .before .before .loop .k)) (groupsIn ((c .before .before .before .before .before .loop .t))) ((c .before .before .before .before .before .loop .inv .1)) _ ((c .before .before .before .before .before .loop .inv .0)) ((c .before .before .before .passed .ensures .1)) ((c .before .before .before .before .loop-test .taken)) _ ((c .before .before .table-consistent .ensures)) (not-true _ ((c .before .if2 .taken))) _ ((c .refused2 .ensures))
+returns-2 c = refused-21 ((c .before .before .before .before .before .before .before .before .before .before .before .before .before .before .before .args .m)) (range-true ((c .before .before .before .before .before .before .before .before .before .before .before .before .before .before .before .args .m)) _ ((c .before .before .before .before .before .before .before .before .before .before .before .before .before .before .in-range .ensures)) (not-false _ ((c .before .before .before .before .before .before .before .before .before .before .before .before .before .if1 .left)))) ((c .before .before .before .before .before .loop .k)) (groupsIn ((c .before .before .before .before .before .loop .t))) ((c .before .before .before .before .before .loop .inv .1)) _ ((c .before .before .before .before .before .loop .inv .0)) ((c .before .before .before .passed .ensures .1)) ((c .before .before .before .before .loop-test .taken)) _ ((c .before .before .is-consistent .ensures)) (not-true _ ((c .before .if2 .taken))) _ ((c .refused2 .ensures))
 
-same-table-requires : tie.Need-same-table-requires Inv-loop μ-loop
-same-table-requires c κs = ((c .before .before .passed .ensures .0), ((c .before .before .before .before .loop .inv .0), s-few ((c .before .before .before .before .before .before .before .before .before .before .before .before .before .before .args .m)) (range-true ((c .before .before .before .before .before .before .before .before .before .before .before .before .before .before .args .m)) _ ((c .before .before .before .before .before .before .before .before .before .before .before .before .before .in-range .ensures)) (not-false _ ((c .before .before .before .before .before .before .before .before .before .before .before .before .if1 .left))))))
+is-same-requires : tie.Need-is-same-requires Inv-loop μ-loop
+is-same-requires c κs = search needs
 
 done-requires : tie.Need-done-requires Inv-loop μ-loop
-done-requires c κs = ((c .before .before .before .before .passed .ensures .0), s-few ((c .before .before .before .before .before .before .before .before .before .before .before .before .before .before .before .before .args .m)) (range-true ((c .before .before .before .before .before .before .before .before .before .before .before .before .before .before .before .before .args .m)) _ ((c .before .before .before .before .before .before .before .before .before .before .before .before .before .before .before .in-range .ensures)) (not-false _ ((c .before .before .before .before .before .before .before .before .before .before .before .before .before .before .if1 .left)))))
+done-requires c κs = search needs
 
 returns-3 : tie.Need-returns-3 Inv-loop μ-loop
-returns-3 c = at-fixpoint ((c .before .before .before .before .before .before .before .before .before .before .before .before .before .before .before .before .before .args .m)) (range-true ((c .before .before .before .before .before .before .before .before .before .before .before .before .before .before .before .before .before .args .m)) _ ((c .before .before .before .before .before .before .before .before .before .before .before .before .before .before .before .before .in-range .ensures)) (not-false _ ((c .before .before .before .before .before .before .before .before .before .before .before .before .before .before .before .if1 .left)))) ((c .before .before .before .before .before .before .before .loop .k)) (groupsIn ((c .before .before .before .before .before .before .before .loop .t))) ((c .before .before .before .before .before .before .before .loop .inv .1)) _ ((c .before .before .before .before .before .before .before .loop .inv .0)) ((c .before .before .before .before .before .passed .ensures .1)) ((c .before .before .before .before .before .before .loop-test .taken)) _ ((c .before .before .before .before .table-consistent .ensures)) (not-false _ ((c .before .before .before .if2 .left))) _ ((c .before .before .same-table .ensures)) ((c .before .if3 .taken)) _ ((c .done .ensures))
+returns-3 c = at-fixpoint ((c .before .before .before .before .before .before .before .before .before .before .before .before .before .before .before .before .before .args .m)) (range-true ((c .before .before .before .before .before .before .before .before .before .before .before .before .before .before .before .before .before .args .m)) _ ((c .before .before .before .before .before .before .before .before .before .before .before .before .before .before .before .before .in-range .ensures)) (not-false _ ((c .before .before .before .before .before .before .before .before .before .before .before .before .before .before .before .if1 .left)))) ((c .before .before .before .before .before .before .before .loop .k)) (groupsIn ((c .before .before .before .before .before .before .before .loop .t))) ((c .before .before .before .before .before .before .before .loop .inv .1)) _ ((c .before .before .before .before .before .before .before .loop .inv .0)) ((c .before .before .before .before .before .passed .ensures .1)) ((c .before .before .before .before .before .before .loop-test .taken)) _ ((c .before .before .before .before .is-consistent .ensures)) (not-false _ ((c .before .before .before .if2 .left))) _ ((c .before .before .is-same .ensures)) ((c .before .if3 .taken)) _ ((c .done .ensures))
 
 loop-less : tie.Need-loop-less Inv-loop μ-loop
 loop-less c = omega arith
 
 loop-again : tie.Need-loop-again Inv-loop μ-loop
-loop-again c = ((c .before .before .before .before .passed .ensures .0), pass-more ((c .before .before .before .before .before .before .before .before .before .before .before .before .before .before .before .before .args .m)) (range-true ((c .before .before .before .before .before .before .before .before .before .before .before .before .before .before .before .before .args .m)) _ ((c .before .before .before .before .before .before .before .before .before .before .before .before .before .before .before .in-range .ensures)) (not-false _ ((c .before .before .before .before .before .before .before .before .before .before .before .before .before .before .if1 .left)))) ((c .before .before .before .before .before .before .loop .k)) (groupsIn ((c .before .before .before .before .before .before .loop .t))) ((c .before .before .before .before .before .before .loop .inv .1)) _ ((c .before .before .before .before .before .before .loop .inv .0)) ((c .before .before .before .before .passed .ensures .1)) ((c .before .before .before .before .before .loop-test .taken)) _ ((c .before .before .before .table-consistent .ensures)) (not-false _ ((c .before .before .if2 .left))) _ ((c .before .same-table .ensures)) ((c .if3 .left)))
+loop-again c = ((c .before .before .before .before .passed .ensures .0), pass-more ((c .before .before .before .before .before .before .before .before .before .before .before .before .before .before .before .before .args .m)) (range-true ((c .before .before .before .before .before .before .before .before .before .before .before .before .before .before .before .before .args .m)) _ ((c .before .before .before .before .before .before .before .before .before .before .before .before .before .before .before .in-range .ensures)) (not-false _ ((c .before .before .before .before .before .before .before .before .before .before .before .before .before .before .if1 .left)))) ((c .before .before .before .before .before .before .loop .k)) (groupsIn ((c .before .before .before .before .before .before .loop .t))) ((c .before .before .before .before .before .before .loop .inv .1)) _ ((c .before .before .before .before .before .before .loop .inv .0)) ((c .before .before .before .before .passed .ensures .1)) ((c .before .before .before .before .before .loop-test .taken)) _ ((c .before .before .before .is-consistent .ensures)) (not-false _ ((c .before .before .if2 .left))) _ ((c .before .is-same .ensures)) ((c .if3 .left)))
 
 refused-requires-3 : tie.Need-refused-requires-3 Inv-loop μ-loop
 refused-requires-3 c κs = search needs
@@ -101,10 +101,10 @@ propagate-spec =
     loop-holds
     passed-requires
     add-k
-    table-consistent-requires
+    is-consistent-requires
     refused-requires-2
     returns-2
-    same-table-requires
+    is-same-requires
     done-requires
     returns-3
     loop-less

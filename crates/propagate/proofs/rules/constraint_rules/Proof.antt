@@ -3,7 +3,7 @@ use Prim.Native.Nat.{_≤_, _-_}
 use native.Mathlib.Omega.{arith}
 use lib.ListN.{take, length-take}
 use Rattle.model.specs.Limits.{limits}
-use Rattle.propagate.specs.Flat.{zipped}
+use Rattle.table.specs.Table.{zipped}
 use Rattle.propagate.proofs.Loops.{ConstraintsLeft, constraints-left, constraint-done, no-constraint-left}
 use Rattle.propagate.proofs.Members.{constraint-at}
 use Rattle.propagate.proofs.rules.constraint_rules.Statement.{statement}

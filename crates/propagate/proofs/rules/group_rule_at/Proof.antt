@@ -3,7 +3,7 @@ use Prim.Native.Nat.{ℕ, _+_, _-_}
 use mathlib.Core.Path.{_≡_, ap, _∙_}
 use Rattle.model.specs.Lists.{onPlace}
 use Rattle.model.specs.Propagate.{groupRule, groupRuleAt}
-use Rattle.propagate.specs.Flat.{zipped}
+use Rattle.table.specs.Table.{zipped}
 use Rattle.propagate.proofs.Arrays.{rule-stored}
 use native.Mathlib.Omega.{arith}
 use borrow.Author.Needs.{needs}

@@ -4,7 +4,7 @@ use mathlib.Core.Path.{_≡_, _∙_, sym}
 use mathlib.Core.List.{map}
 use Rattle.model.specs.Lists.{range}
 use Rattle.model.specs.Propagate.{groupRuleAt, run}
-use Rattle.propagate.specs.Flat.{zipped}
+use Rattle.table.specs.Table.{zipped}
 use Rattle.propagate.proofs.Loops.{groups-start, groups-next, groups-end}
 use native.Mathlib.Omega.{arith}
 use Rattle.propagate.proofs.rules.group_rules.Statement.{statement}

@@ -1,0 +1,32 @@
+-- `set_of` reads a place behind two guards. Assumes nothing.
+use Rattle.constraint_clauses.proofs.Sets.{set-none, set-at, set-past}
+use native.Mathlib.Omega.{arith}
+use borrow.Author.Needs.{needs}
+use Rattle.constraint_clauses.proofs.set_of.Statement.{statement}
+use Rattle.constraint_clauses.proofs.set_of.Tie as tie
+
+array-read-result : tie.Need-array-read-result
+array-read-result c = search needs
+
+returns : tie.Need-returns
+returns c = set-none _ _ (c .if1 .taken)
+
+cast-at : tie.Need-cast-at
+cast-at c = search needs
+
+mul-result : tie.Need-mul-result
+mul-result c = search needs
+
+array-read-result-2 : tie.Need-array-read-result-2
+array-read-result-2 c = search needs
+
+returns-2 : tie.Need-returns-2
+returns-2 c = set-at _ _
+
+returns-3 : tie.Need-returns-3
+returns-3 c = set-past _ _ (omega (arith, (c .before .before .good)))
+
+pub set-of-spec : {M : Type 1} → statement M
+set-of-spec =
+    tie.close
+    (tie.spec array-read-result returns cast-at mul-result array-read-result-2 returns-2 returns-3)
