@@ -38,13 +38,17 @@ class Sheet:
         return "".join("".join(f"{field:4}" for field in row) + "\n" for row in rows)
 
 
-def golfers(tables, size, weeks):
+def golfers(tables, size, weeks, first=True, later=True):
     """Social golfers: every week all entrants at tables of `size`, no two at one table twice.
-    The first week is fixed; those of its first table are at different tables later, so their places are fixed too."""
+    The first week is fixed; those of its first table are at different tables later, so their places are fixed too. Either can be left open."""
     sheet = Sheet(tables * size)
     season = []
     for week in range(weeks):
-        places = [range(t * size + 1, (t + 1) * size + 1) if week == 0 else [t + 1] if t < size else [] for t in range(tables)]
+        places = [[]] * tables
+        if week == 0 and first:
+            places = [range(t * size + 1, (t + 1) * size + 1) for t in range(tables)]
+        elif week > 0 and later:
+            places = [[t + 1] if t < size else [] for t in range(tables)]
         season.append([sheet.group(size, size, fixed=places[t]) for t in range(tables)])
     for week in season:
         for f, g in itertools.combinations(week, 2):

@@ -1,5 +1,6 @@
 //! Document 01 in plain Rust, written from the paper alone, to compare the proved code with.
 pub mod answer;
+pub mod certificate;
 pub mod clauses;
 pub mod close;
 pub mod compare;

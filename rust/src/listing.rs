@@ -68,7 +68,8 @@ fn push_clause(clause: &[i32], text: &mut Vec<u8>) {
     text.extend_from_slice(&bytes[at..]);
 }
 
-fn push_number(number: u32, text: &mut Vec<u8>) {
+/// Appends the number in decimal.
+pub fn push_number(number: u32, text: &mut Vec<u8>) {
     let mut digits = [0; 10];
     let start = digits_before(number, digits.len(), &mut digits);
     text.extend_from_slice(&digits[start..]);

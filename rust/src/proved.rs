@@ -1,5 +1,5 @@
 //! The proved code, through the static library of the crate `exports`: the only unsafe code here.
-use crate::compare::calls::Calls;
+use crate::compare::calls::{Calls, Lent};
 
 extern "C" {
     fn draw_read(sheet: *const u8, sheet_len: usize) -> u64;
@@ -12,6 +12,20 @@ extern "C" {
     fn draw_block_model(words: *const u64, words_len: usize, block: u32, buffer: *mut u8, buffer_len: usize) -> u64;
     fn draw_close_model(words: *const u64, words_len: usize, closed: u32, marks: *const u8, marks_len: usize, groups: *mut u64, groups_len: usize) -> u32;
     fn draw_write_model(words: *const u64, words_len: usize, buffer: *mut u8, buffer_len: usize) -> u64;
+    fn draw_certify(
+        sheet: *const u8,
+        sheet_len: usize,
+        certificate: *const u8,
+        certificate_len: usize,
+        text: *mut u8,
+        text_len: usize,
+        store: *mut u32,
+        store_len: usize,
+        index: *mut u32,
+        index_len: usize,
+        marks: *mut u32,
+        marks_len: usize,
+    ) -> u64;
 }
 
 pub struct Proved;
@@ -55,5 +69,25 @@ impl Calls for Proved {
 
     fn write_model(&self, words: &[u64], buffer: &mut [u8]) -> u64 {
         unsafe { draw_write_model(words.as_ptr(), words.len(), buffer.as_mut_ptr(), buffer.len()) }
+    }
+
+    fn certify(&self, sheet: &[u8], certificate: &[u8], lent: &mut Lent) -> u64 {
+        let Lent { text, store, index, marks } = lent;
+        unsafe {
+            draw_certify(
+                sheet.as_ptr(),
+                sheet.len(),
+                certificate.as_ptr(),
+                certificate.len(),
+                text.as_mut_ptr(),
+                text.len(),
+                store.as_mut_ptr(),
+                store.len(),
+                index.as_mut_ptr(),
+                index.len(),
+                marks.as_mut_ptr(),
+                marks.len(),
+            )
+        }
     }
 }

@@ -1,6 +1,7 @@
 -- Demand 3 holds for every accepted sheet and every order of it. Settling from the propagation laws, listing and match from the encoding laws, reading back
 -- from Reading. Assumes nothing.
 use mathlib.Core.Path.{_≡_, refl, sym, ap, ap₂, _∙_, subst}
+use mathlib.Core.Logic.{_⊎_}
 use Prim.Native.Nat.{ℕ, suc, _+_, _*_, _≤_}
 use native.Mathlib.Omega.{arith}
 use mathlib.Core.Bool.{Bool, true, false, not, _&&_}
@@ -20,7 +21,7 @@ use Rattle.model.specs.Text.{blockText, hasEmptyClause, blockRefusal}
 use Rattle.model.specs.Assignment.{nothingSaid, variable, isSaid, lineRead}
 use Rattle.model.specs.Close.{satisfying, groupsBy, closedGroups, assignmentOf, closeRefusal, closed}
 use Rattle.model.specs.Solution.{allowed, constraintTrue, isSolution}
-use Rattle.model.specs.Demand.{OrderOf, groupWithin, within, unchanged, isCandidate, isAssignment, isSatisfying, freshReading, isFresh, readingAfter, valuesAfterAll, says}
+use Rattle.model.specs.Demand.{Accepted, OrderOf, groupWithin, within, unchanged, isCandidate, isAssignment, isSatisfying, freshReading, isFresh, readingAfter, valuesAfterAll, says}
 use Rattle.model.proofs.Lists.{T-true, T-false, T-ext, true-T, and-right, and-both, All, all-imp, every-all, all-every, all-perm, pairwise-length}
 use Rattle.model.proofs.Refusals.{settled-rest}
 use Rattle.propagation_laws.proofs.Propagation.{Propagation, Reordered}
@@ -200,3 +201,24 @@ demand-3 b o m h =
           (one-for-one q (settled p whole-p prop-p e) (settled-members p whole-p prop-p e));
       reads-back = λ e values f lines. reading-back q (settled p whole-p prop-p e) values f lines;
     }
+
+-- ---- one sheet, for a certificate: 21 means no draw; a sheet that settles has a satisfying assignment for each draw
+
+module _ (b : List ℕ) (m : Model) (h : Accepted b m) where
+  pub sheet-answered : (propagated m .refusal ≡ 0) ⊎ (propagated m .refusal ≡ 21)
+  sheet-answered = sheet-propagation b m h .refusals
+
+  pub sheet-none : propagated m .refusal ≡ 21 → (d : List ℕ) → T (isSolution m d) → ⊥
+  sheet-none = sheet-propagation b m h .no-solution
+
+  module _ (e : propagated m .refusal ≡ 0) where
+    pub sheet-settled : Settled (propagated m .model)
+    sheet-settled = settled m (accurate b m h) (sheet-propagation b m h) e
+
+    pub sheet-assignment : (d : List ℕ) → T (isSolution m d) → (a : List Bool) × T (satisfying (propagated m .model) a)
+    unfolding isSatisfying
+    sheet-assignment d t =
+        let prop = sheet-propagation b m h in
+        let q = propagated m .model in
+        let x = one-for-one q sheet-settled (settled-members m (accurate b m h) prop e) .found d (subst T (prop .solutions d) t) in
+        (x .0, and-right (isAssignment q (x .0)) (satisfying q (x .0)) (x .1))

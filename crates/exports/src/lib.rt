@@ -8,6 +8,10 @@ ghost use Rattle.model.specs.Text.{blockBuffer};
 ghost use Rattle.model.specs.SheetText.{sheetBuffer};
 ghost use Rattle.words.specs.Words.{modelFrom};
 ghost use Rattle.exports.specs.Draw.{drawRead, settledSheet, fitted, settleNumber, tableAfter, drawSettle, drawTable, modelSettle, modelTable, drawBlock, drawBuffer, modelBlock, modelSheet, drawBlocks, drawRun, readingOf, drawLine, closedSheet, drawClose, drawGroups, modelClose, modelGroups};
+ghost use Rattle.certificate.specs.declared.Opening.the-variants.{Open};
+ghost use Rattle.certificate.specs.NoDraw.{openingOf};
+ghost use Rattle.exports.specs.Certify.{verdictNumber, Judged};
+use certificate::Verdict;
 use model::Closed;
 use model::Model;
 use model::Propagated;
@@ -185,4 +189,34 @@ pub extern "C" fn draw_close_model(
     };
     let a = solution::close(m, reading, values);
     packing::close_number(a, groups)
+}
+
+// ---- a certificate
+
+fn verdict_number(v: Verdict) -> u64
+    ensures { λ r. ⌜ r ≡ verdictNumber v ⌝ }
+{
+    match v {
+        Verdict::NotCertified(reason, line) => line as u64 * 65536 + reason as u64 * 4,
+        Verdict::Refused(refusal, line) => line as u64 * 65536 + refusal as u64 * 4 + 1,
+        Verdict::SettledOut => 2,
+        Verdict::Certified => 3,
+    }
+}
+
+// Whether a certificate shows that the sheet has no draw, in memory that the caller lends: as much as it has, for what a program's own cannot hold.
+#[no_mangle]
+pub extern "C" fn draw_certify(
+    sheet: &[u8],
+    certificate: &[u8],
+    text: &mut [u8],
+    store: &mut [u32],
+    index: &mut [u32],
+    marks: &mut [u32],
+) -> u64
+    ensures { λ r. ⌜ Judged (now (sheet .entry)) r ⌝ }
+    ensures { λ r. ⌜ ((openingOf (now (sheet .entry)) ≡ Open → ⊥) → (now (text .exit) ≡ now (text .entry)) × (now (store .exit) ≡ now (store .entry)) × (now (index .exit) ≡ now (index .entry)) × (now (marks .exit) ≡ now (marks .entry))) ⌝ }
+{
+    let v = certificate::certify(sheet, certificate, text, store, index, marks);
+    verdict_number(v)
 }

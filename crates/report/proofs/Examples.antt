@@ -1,7 +1,7 @@
 -- Messages that compute. Assumes nothing.
 use mathlib.Core.Path.{_≡_, refl}
 use Rattle.model.specs.Text.{digits, decimal}
-use Rattle.report.specs.Messages.{bytes, meaningText, refusedAtText, refusedLineText, countsText}
+use Rattle.report.specs.Messages.{bytes, meaningText, refusedAtText, refusedLineText, countsText, reasonText, notCertifiedText}
 
 at-a-line : refusedAtText 9 14 ≡ bytes "refused 9 at line 14\na group stands twice in the line\n"
 unfolding refusedAtText meaningText decimal digits
@@ -18,3 +18,11 @@ a-long-line = refl
 a-sheet : countsText 32 4 10 ≡ bytes "32 entrants, 4 groups, 10 constraints\n"
 unfolding countsText decimal digits
 a-sheet = refl
+
+of-a-certificate : notCertifiedText 6 12 ≡ bytes "not certified: the hints do not show the clause (line 12 of the certificate)\n"
+unfolding notCertifiedText reasonText decimal digits
+of-a-certificate = refl
+
+before-a-certificate : notCertifiedText 11 0 ≡ bytes "not certified: there is no room for a block of the listing\n"
+unfolding notCertifiedText reasonText
+before-a-certificate = refl

@@ -17,7 +17,7 @@ use Rattle.text.specs.Put.{placed, placeAfter}
 use Rattle.text.proofs.Writes.{nothing}
 use Rattle.report.specs.declared.Message.{Message}
 use Rattle.report.specs.declared.Tried.{Tried}
-use Rattle.report.specs.Messages.{bytes, zeros, message, Counted, added, meanings, textAt, meaningText, closedText, unsaidText, triedText, addedUnsaid, addedResult, addedTried}
+use Rattle.report.specs.Messages.{bytes, zeros, message, Counted, added, meanings, textAt, meaningText, reasons, reasonText, closedText, unsaidText, triedText, addedUnsaid, addedResult, addedTried}
 
 -- a text of no more bytes than a message has
 message-length : (t : List ℕ) → length t ≤ 160 → length (t ++ drop (length t) zeros) ≡ 160
@@ -53,6 +53,10 @@ meaning-length : (refusal : ℕ) → length (meaningText refusal) ≤ 95
 unfolding meaningText
 meaning-length refusal = table-length 95 meanings refusal tt
 
+reason-length : (reason : ℕ) → length (reasonText reason) ≤ 60
+unfolding reasonText
+reason-length reason = table-length 60 reasons reason tt
+
 -- ---- a message that is built text by text: m says t, of up to k bytes
 
 pub record Says (m : Message) (t : List ℕ) (k : ℕ) : Type 0 where
@@ -76,6 +80,9 @@ add-decimal v h = more (decimal v) 10 (decimal-bound 9 v (omega arith))
 
 pub add-meaning : (x : ℕ) {m r : Message} {t : List ℕ} {k : ℕ} → r ≡ added m (meaningText x) → Says m t k → Says r (t ++ meaningText x) (k + 95)
 add-meaning x = more (meaningText x) 95 (meaning-length x)
+
+pub add-reason : (x : ℕ) {m r : Message} {t : List ℕ} {k : ℕ} → r ≡ added m (reasonText x) → Says m t k → Says r (t ++ reasonText x) (k + 60)
+add-reason x = more (reasonText x) 60 (reason-length x)
 
 pub said : {m : Message} {t : List ℕ} {k : ℕ} → k ≤ 160 → Says m t k → (m ≡ message t) × Counted m
 unfolding message

@@ -104,6 +104,36 @@ blockLine b k exact short =
 unfoldable pub changedText : ℕ → List ℕ
 changedText b = bytes "block " ++ decimal b ++ bytes ": a byte past the text changed\n"
 
+-- ---- of a certificate: why it does not certify, and in which of its lines; line 0 is before the first
+
+abbrev pub reasons : List (ℕ × String)
+reasons =
+    (1, "there is no room for another clause")
+    ∷ (2, "a clause has a larger number than there is room for")
+    ∷ (3, "the listing has no such variable")
+    ∷ (4, "no clause is stored under that number")
+    ∷ (5, "a hint says nothing: more than one of its literals is open")
+    ∷ (6, "the hints do not show the clause")
+    ∷ (7, "it has too many lines")
+    ∷ (8, "a byte stands where none of the format does")
+    ∷ (9, "a number is above 400,000,000")
+    ∷ (10, "a hint has a minus sign (RAT), which is not taken")
+    ∷ (11, "there is no room for a block of the listing")
+    ∷ (12, "it ends before the empty clause")
+    ∷ []
+
+unfoldable pub reasonText : ℕ → List ℕ
+reasonText reason = textAt reasons reason
+
+unfoldable pub notCertifiedText : ℕ → ℕ → List ℕ
+notCertifiedText reason line =
+    cond (eqb line 0)
+    (bytes "not certified: " ++ reasonText reason ++ bytes "\n")
+    (bytes "not certified: " ++ reasonText reason ++ bytes " (line " ++ decimal line ++ bytes " of the certificate)\n")
+
+unfoldable pub noDrawText : Bool → List ℕ
+noDrawText certified = cond certified (bytes "no draw: certified\n") (bytes "no draw: settled out\n")
+
 -- ---- a message by value: the text over zeros
 
 abbrev pub zeros : List ℕ

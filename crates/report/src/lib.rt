@@ -2,7 +2,7 @@
 ghost use mathlib.Core.Path.{_≡_};
 ghost use mathlib.Core.List.{[]};
 ghost use Rattle.model.specs.Text.{decimal};
-ghost use Rattle.report.specs.Messages.{meaningText, refusedText, refusedAtText, refusedLineText, numberText, countsText, passesText, Counted, closedText, endingText, blockLine, changedText, message, added, addedUnsaid, addedResult, addedTried};
+ghost use Rattle.report.specs.Messages.{meaningText, refusedText, refusedAtText, refusedLineText, numberText, countsText, passesText, Counted, closedText, endingText, blockLine, changedText, reasonText, notCertifiedText, noDrawText, message, added, addedUnsaid, addedResult, addedTried};
 
 // The most bytes of a message.
 const MOST: usize = 160;
@@ -248,4 +248,54 @@ pub fn changed(b: u32) -> Message
     let a = add(empty(), b"block ");
     let d = add_number(a, b);
     add(d, b": a byte past the text changed\n")
+}
+
+// Why a certificate does not certify.
+fn add_reason(m: Message, reason: u32) -> Message
+    ensures { λ r. ⌜ r ≡ added m (reasonText reason) ⌝ }
+{
+    match reason {
+        1 => add(m, b"there is no room for another clause"),
+        2 => add(m, b"a clause has a larger number than there is room for"),
+        3 => add(m, b"the listing has no such variable"),
+        4 => add(m, b"no clause is stored under that number"),
+        5 => add(
+            m,
+            b"a hint says nothing: more than one of its literals is open",
+        ),
+        6 => add(m, b"the hints do not show the clause"),
+        7 => add(m, b"it has too many lines"),
+        8 => add(m, b"a byte stands where none of the format does"),
+        9 => add(m, b"a number is above 400,000,000"),
+        10 => add(m, b"a hint has a minus sign (RAT), which is not taken"),
+        11 => add(m, b"there is no room for a block of the listing"),
+        12 => add(m, b"it ends before the empty clause"),
+        _ => m,
+    }
+}
+
+// `not certified: `, the reason and the certificate's line, where it has one.
+pub fn not_certified(reason: u32, line: u32) -> Message
+    ensures { λ r. ⌜ r ≡ message (notCertifiedText reason line) ⌝ }
+    ensures { λ r. ⌜ Counted r ⌝ }
+{
+    let a = add(empty(), b"not certified: ");
+    let b = add_reason(a, reason);
+    if line == 0 {
+        return add(b, b"\n");
+    }
+    let c = add(b, b" (line ");
+    let d = add_number(c, line);
+    add(d, b" of the certificate)\n")
+}
+
+// A "no" that is shown: by a certificate, or by settling alone.
+pub fn no_draw(certified: bool) -> Message
+    ensures { λ r. ⌜ r ≡ message (noDrawText certified) ⌝ }
+    ensures { λ r. ⌜ Counted r ⌝ }
+{
+    if certified {
+        return add(empty(), b"no draw: certified\n");
+    }
+    add(empty(), b"no draw: settled out\n")
 }

@@ -1,4 +1,5 @@
 //! The calls of the C interface, and this crate's answer to each.
+use super::certificates::checked;
 use crate::encode::Encoding;
 use crate::model::{Model, GROUPS};
 use crate::refusal::{CONTRADICTION, SHORT_BUFFER};
@@ -27,6 +28,16 @@ pub trait Calls {
     fn close_model(&self, words: &[u64], closed: u32, marks: &[u8], groups: &mut [u64]) -> u32;
     /// the sheet of a model as words: refusal * 2^32 + length
     fn write_model(&self, words: &[u64], buffer: &mut [u8]) -> u64;
+    /// a certificate of a sheet: 0 not certified, + 4 * reason + 65536 * line; 1 sheet refused, + 4 * refusal + 65536 * line; 2 settled out; 3 certified
+    fn certify(&self, sheet: &[u8], certificate: &[u8], lent: &mut Lent) -> u64;
+}
+
+/// The memory that checking a certificate wants.
+pub struct Lent {
+    pub text: Vec<u8>,
+    pub store: Vec<u32>,
+    pub index: Vec<u32>,
+    pub marks: Vec<u32>,
 }
 
 pub struct Counterpart;
@@ -121,5 +132,18 @@ impl Calls for Counterpart {
 
     fn write_model(&self, words: &[u64], buffer: &mut [u8]) -> u64 {
         write_number(from_words(words), buffer).unwrap_or_else(|number| u64::from(number) << 32)
+    }
+
+    /// The reason, and its line, of a certificate that fails are the other side's to say.
+    fn certify(&self, sheet: &[u8], certificate: &[u8], lent: &mut Lent) -> u64 {
+        let model = match read(sheet) {
+            Ok(model) => model,
+            Err(refused) => return 1 + 4 * u64::from(refused.number) + 65_536 * u64::from(refused.line),
+        };
+        match settle(model) {
+            None => 2,
+            Some(settled) if checked(&Encoding::of(&settled), certificate, lent).certified => 3,
+            Some(_) => 4,
+        }
     }
 }

@@ -1,5 +1,6 @@
 //! One case of the comparison: a call's input, the kind of case it is, and whether both sides answer alike.
 use super::calls::{settled, Calls, Counterpart};
+use super::certificates::{self, CertificateCase};
 use super::models::{self, ModelCase};
 use crate::encode::Encoding;
 use crate::listing::listing;
@@ -39,6 +40,7 @@ pub enum Case {
         room: usize,
     },
     Model(ModelCase),
+    Certificate(CertificateCase),
 }
 
 pub type Kind = &'static str;
@@ -47,7 +49,7 @@ pub const SAMPLE: Kind = "line: answers to the published samples";
 
 /// Every kind of case, in the order of the report. A run that misses one has failed.
 pub fn kinds() -> impl Iterator<Item = Kind> {
-    KINDS.iter().chain(models::KINDS).copied()
+    KINDS.iter().chain(models::KINDS).chain(certificates::KINDS).copied()
 }
 
 const KINDS: &[Kind] = &[
@@ -168,6 +170,7 @@ pub fn check(case: &Case, other: &dyn Calls) -> Outcome {
         Case::Lines { marks, lines } => check_lines(marks, lines, other, &mut outcome),
         Case::Close { sheet, closed, marks, room } => check_close(sheet, *closed, marks, *room, other, &mut outcome),
         Case::Model(model) => model.check(other, &mut outcome),
+        Case::Certificate(certificate) => certificate.check(other, &mut outcome),
     }
     outcome
 }
@@ -384,6 +387,7 @@ impl Case {
             Case::Read { sheet } | Case::Settle { sheet, .. } | Case::Block { sheet, .. } | Case::Blocks { sheet, .. } | Case::Close { sheet, .. } => {
                 Some(sheet)
             }
+            Case::Certificate(certificate) => Some(&certificate.sheet),
             Case::Lines { .. } | Case::Model(_) => None,
         }
     }
@@ -400,6 +404,7 @@ impl Case {
                 }
                 *sheet = new;
             }
+            Case::Certificate(certificate) => *certificate = certificate.with_sheet(new),
             Case::Lines { .. } | Case::Model(_) => {}
         }
         case
@@ -417,6 +422,7 @@ impl Case {
             Case::Block { sheet: s, block, spare } => format!("block {block}, buffer of the block's length{spare:+}\n{}", sheet(s)),
             Case::Blocks { sheet: s, rooms } => format!("runs of blocks, buffers of {rooms:?} bytes\n{}", sheet(s)),
             Case::Model(model) => model.show(),
+            Case::Certificate(certificate) => certificate.show(),
             Case::Close { sheet: s, closed, marks, room } => format!("close, closed {closed}, marks {marks:?}, table of {room} words\n{}", sheet(s)),
             Case::Lines { marks, lines } => {
                 let lines: String = lines.iter().map(|line| format!("  \"{}\"\n", text(line))).collect();

@@ -2,10 +2,12 @@
 pub mod answers;
 pub mod calls;
 pub mod case;
+pub mod certificates;
 pub mod models;
 pub mod programs;
 pub mod random;
 pub mod run;
 pub mod samples;
+pub mod search;
 pub mod sheets;
 pub mod shrink;

@@ -3,7 +3,7 @@ use super::calls::{settled, Calls};
 use super::case::{check, kinds, Case, Kind, SAMPLE};
 use super::random::Random;
 use super::shrink::shrink;
-use super::{answers, models, samples, sheets};
+use super::{answers, certificates, models, samples, sheets};
 use crate::encode::Encoding;
 use crate::listing::listing;
 use std::collections::BTreeMap;
@@ -82,6 +82,9 @@ impl Tally {
 
 /// The cases made from one sheet.
 pub fn batch(random: &mut Random) -> Vec<Case> {
+    if random.chance(4) {
+        return certificates::cases(random).into_iter().map(Case::Certificate).collect();
+    }
     let sample = sheets::valid(random);
     if random.chance(45) {
         return damaged_batch(random, &sample.sheet);
@@ -173,7 +176,7 @@ fn close_case(random: &mut Random, sheet: Vec<u8>, draw: Option<&[u64]>) -> Case
 
 #[cfg(test)]
 mod tests {
-    use super::super::calls::Counterpart;
+    use super::super::calls::{Counterpart, Lent};
     use super::*;
 
     const CALLS: u64 = 20_000;
@@ -206,6 +209,7 @@ mod tests {
         block_model: fn(&[u64], u32, &mut [u8]) -> u64,
         close_model: fn(&[u64], u32, &[u8], &mut [u64]) -> u32,
         write_model: fn(&[u64], &mut [u8]) -> u64,
+        certify: fn(&[u8], &[u8], &mut Lent) -> u64,
     }
 
     const SOUND: Broken = Broken {
@@ -219,6 +223,7 @@ mod tests {
         block_model: |words, block, buffer| Counterpart.block_model(words, block, buffer),
         close_model: |words, closed, marks, groups| Counterpart.close_model(words, closed, marks, groups),
         write_model: |words, buffer| Counterpart.write_model(words, buffer),
+        certify: |sheet, certificate, lent| Counterpart.certify(sheet, certificate, lent),
     };
 
     impl Calls for Broken {
@@ -251,6 +256,9 @@ mod tests {
         }
         fn write_model(&self, words: &[u64], buffer: &mut [u8]) -> u64 {
             (self.write_model)(words, buffer)
+        }
+        fn certify(&self, sheet: &[u8], certificate: &[u8], lent: &mut Lent) -> u64 {
+            (self.certify)(sheet, certificate, lent)
         }
     }
 
@@ -364,5 +372,23 @@ mod tests {
             answer
         };
         is_caught(Broken { write_model, ..SOUND }, "model: sheet", "buffer at");
+    }
+
+    #[test]
+    fn a_checker_that_believes_every_certificate_is_caught() {
+        let certify = |sheet: &[u8], certificate: &[u8], lent: &mut Lent| match Counterpart.certify(sheet, certificate, lent) {
+            4 => 3,
+            answer => answer,
+        };
+        is_caught(Broken { certify, ..SOUND }, "certify: a sheet that has a draw", "certificate\n\n");
+    }
+
+    #[test]
+    fn a_checker_that_writes_on_a_refused_sheet_is_caught() {
+        let certify = |sheet: &[u8], certificate: &[u8], lent: &mut Lent| {
+            lent.index[0] = 0;
+            Counterpart.certify(sheet, certificate, lent)
+        };
+        is_caught(Broken { certify, ..SOUND }, "certify: sheet refused", "index at 0");
     }
 }

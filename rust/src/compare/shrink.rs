@@ -153,6 +153,21 @@ impl Shrinker<'_> {
         while self.fewer_marks() {
             smaller = true;
         }
+        smaller | self.sweep_certificate()
+    }
+
+    fn sweep_certificate(&mut self) -> bool {
+        let Case::Certificate(case) = self.best.clone() else { return false };
+        let mut lines: Vec<&[u8]> = case.certificate.split_inclusive(|&byte| byte == b'\n').collect();
+        let mut smaller = false;
+        for index in (0..lines.len()).rev() {
+            let line = lines.remove(index);
+            if self.attempt(Case::Certificate(case.with_certificate(lines.concat()))) {
+                smaller = true;
+            } else {
+                lines.insert(index, line);
+            }
+        }
         smaller
     }
 

@@ -1,0 +1,131 @@
+// Whether a certificate shows that a sheet has no draw: the sheet is the file that argument 1 names, the certificate comes on standard input.
+ghost use mathlib.Core.Path.{_≡_};
+ghost use mathlib.Core.List.{List};
+ghost use Prim.Native.Nat.{ℕ};
+ghost use lib.ListN.{length};
+ghost use Rattle.report.specs.Messages.{Counted};
+ghost use Rattle.certificate.specs.NoDraw.{Stands};
+use certificate::Standing;
+use certificate::Verdict;
+use libc::STDERR_FILENO;
+use libc::STDIN_FILENO;
+use libc::STDOUT_FILENO;
+use model::Model;
+use report::Message;
+
+// Places for clauses, numbers of clauses, and a word for each literal of the largest listing: what 8 MB of stack hold.
+const STORE: usize = 1048576;
+
+const NUMBERS: usize = 524288;
+
+const LITERALS: usize = 98306;
+// Some blocks of the listing at a time.
+const TEXT: usize = 131072;
+
+// What cannot be written is reported.
+fn write(fd: i32, text: &[u8]) {
+    if !io::write_all(fd, text) {
+        io::write_all(STDERR_FILENO, b"the output could not be written\n");
+    }
+}
+
+fn say(fd: i32, m: Message)
+    requires { ⌜ Counted m ⌝ }
+{
+    let n = m.length;
+    let bytes = m.bytes;
+    write(fd, &bytes[..n]);
+}
+
+fn say_verdict(v: Verdict) {
+    match v {
+        Verdict::Refused(refusal, line) => say(STDOUT_FILENO, report::refused_at(refusal, line)),
+        Verdict::SettledOut => say(STDOUT_FILENO, report::no_draw(false)),
+        Verdict::Certified => say(STDOUT_FILENO, report::no_draw(true)),
+        Verdict::NotCertified(reason, line) => {
+            say(STDOUT_FILENO, report::not_certified(reason, line))
+        }
+    }
+}
+
+// The whole certificate. A proved loop has to end: its turns are counted down from a number that no run uses up.
+fn read_certificate(
+    s: Standing,
+    store: &mut [u32],
+    index: &mut [u32],
+    marks: &mut [u32],
+) -> Standing
+    ensures { λ r. ⌜ ((b : List ℕ) → Stands b s (now (store .entry)) (now (index .entry)) (now (marks .entry)) → Stands b r (now (store .exit)) (now (index .exit)) (now (marks .exit))) ⌝ }
+{
+    let mut piece = io::large_buffer();
+    let mut t = s;
+    let mut turns = u64::MAX;
+    while turns > 0 {
+        let got = libc::read(STDIN_FILENO, &mut piece);
+        let n = io::count(got, &piece);
+        if n == 0 {
+            break;
+        }
+        let next = certificate::feed(t, &piece[..n], store, index, marks);
+        t = next;
+        turns -= 1;
+    }
+    t
+}
+
+fn answer(sheet: &[u8], text: &mut [u8], store: &mut [u32], index: &mut [u32], marks: &mut [u32]) {
+    let s = certificate::begin(sheet, text, store, index, marks);
+    let t = read_certificate(s, store, index, marks);
+    say_verdict(certificate::finish(t));
+}
+
+// Of the lent memory only the length is told: the list of its zeros is too long for the prover to look at.
+fn store_space() -> [u32; STORE]
+    ensures { λ r. ⌜ length r ≡ 1048576 ⌝ }
+{
+    [0; STORE]
+}
+
+fn number_space() -> [u32; NUMBERS]
+    ensures { λ r. ⌜ length r ≡ 524288 ⌝ }
+{
+    [0; NUMBERS]
+}
+
+fn literal_space() -> [u32; LITERALS]
+    ensures { λ r. ⌜ length r ≡ 98306 ⌝ }
+{
+    [0; LITERALS]
+}
+
+fn text_space() -> [u8; TEXT]
+    ensures { λ r. ⌜ length r ≡ 131072 ⌝ }
+{
+    [0; TEXT]
+}
+
+fn with_memory(sheet: &[u8]) {
+    let mut text = text_space();
+    let mut store = store_space();
+    let mut index = number_space();
+    let mut marks = literal_space();
+    answer(sheet, &mut text, &mut store, &mut index, &mut marks);
+}
+
+fn main() {
+    let mut path = io::buffer();
+    let length = os::arg(1, &mut path);
+    if os::errno() != 0 {
+        os::fail(b"argument 1, the sheet");
+        return;
+    }
+    let fd = os::open_read(&path[..length]);
+    if fd < 0 {
+        os::fail(&path[..length]);
+        return;
+    }
+    let mut sheet_space = [0u8; Model::SHEET_BYTES + 1];
+    let n = io::read_full(fd, &mut sheet_space);
+    libc::close(fd);
+    with_memory(&sheet_space[..n]);
+}

@@ -1,0 +1,3 @@
+pub mod Clauses
+pub mod Marks
+pub mod Steps
