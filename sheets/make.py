@@ -121,6 +121,35 @@ def bridge_five_at_a_table():
     return sheet
 
 
+def bridge_pairs_within_tables():
+    """Twenty pairs, two evenings of three tables. At each table a group of at least five pairs plays within it; the club writes four to seven pairs for a table.
+    Tables of one evening share no pair and seat at least eighteen; a group shares at most two pairs with one of the other evening.
+    Pairs 19 and 20 cannot come on the first evening, 4 not on the second; pair 1 is in the first group of each."""
+    sheet = Sheet(20)
+    season = []
+    for absent in [(19, 20), (4,)]:
+        groups = [sheet.group(5, 20, barred=absent, fixed=(1,) if t == 0 else ()) for t in range(3)]
+        tables = [sheet.group(4, 7, barred=absent) for _ in range(3)]
+        for group, table in zip(groups, tables):
+            sheet.line(WITHIN, group, table)
+        for f, g in itertools.combinations(tables, 2):
+            sheet.share(0, f, g)
+        sheet.split(tables, 18, 20, barred=absent)
+        season.append(groups)
+    for f, g in itertools.product(*season):
+        sheet.share(2, f, g)
+    return sheet
+
+
+def bridge_too_few_places():
+    """An evening of five tables with four places each, for twenty-four pairs of whom at least twenty-one must play.
+    Twenty places are too few: settling adds them up."""
+    sheet = Sheet(24)
+    tables = [sheet.group(2, 4) for _ in range(5)]
+    sheet.split(tables, 21, 24)
+    return sheet
+
+
 SHEETS = {
     "golf-3-3-4": (golfers(3, 3, 4), "draw"),
     "golf-3-3-5": (golfers(3, 3, 5), "no draw"),
@@ -131,6 +160,8 @@ SHEETS = {
     "bridge-long-season": (bridge_long_season(), "draw"),
     "bridge-clash": (bridge_clash(), "no draw"),
     "bridge-five-at-a-table": (bridge_five_at_a_table(), "no draw, settled out"),
+    "bridge-pairs-within-tables": (bridge_pairs_within_tables(), "draw"),
+    "bridge-too-few-places": (bridge_too_few_places(), "no draw, settled out"),
 }
 
 if __name__ == "__main__":

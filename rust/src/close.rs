@@ -75,10 +75,10 @@ mod tests {
 
     #[test]
     fn examples_b_and_c() {
-        assert_eq!(answer(A, "v 1 -2 3 -4 5 -6 0"), Ok(vec![1, 1]));
-        assert_eq!(answer(A, "v 1 -2 3 -4 -5 -6 0"), Err(28));
-        assert_eq!(answer(A, "v 1 -2 3 -4 5 -6"), Err(27));
-        assert_eq!(answer(A, "v 1 -2 3 -4 5 0"), Err(27));
+        assert_eq!(answer(A, "v 1 -2 3 -4 5 -6 7 -8 0"), Ok(vec![1, 1]));
+        assert_eq!(answer(A, "v 1 -2 3 -4 -5 -6 7 -8 0"), Err(28));
+        assert_eq!(answer(A, "v 1 -2 3 -4 5 -6 7 -8"), Err(27));
+        assert_eq!(answer(A, "v 1 -2 3 -4 5 -6 0"), Err(27));
     }
 
     /// The groups of every satisfying assignment.

@@ -103,13 +103,17 @@ mod tests {
 
     #[test]
     fn example_a_is_the_papers_listing() {
-        let wanted = "p cnf 6 10\n1 2 -5 0\n-2 5 0\n1 -6 0\n-1 5 0\n2 -6 0\n-1 -2 6 0\n5 0\n-6 0\n-1 3 0\n-2 4 0\n";
+        let one = "1 2 -5 0\n-2 5 0\n1 -6 0\n-1 5 0\n2 -6 0\n-1 -2 6 0\n5 0\n-6 0\n";
+        let two = "3 4 -7 0\n-4 7 0\n3 -8 0\n-3 7 0\n4 -8 0\n-3 -4 8 0\n7 0\n";
+        let wanted = format!("p cnf 8 17\n{one}{two}-1 3 0\n-2 4 0\n");
         assert_eq!(with(A, listing), wanted.as_bytes());
     }
 
+    const E: &str = "   1   2   1   0\n   2   1   0   1   2   1\n";
+
     #[test]
     fn example_e_has_no_variables() {
-        assert_eq!(with("   1   2   1   0\n   2   1   0   1   2   1\n", listing), b"p cnf 0 0\n");
+        assert_eq!(with(E, listing), b"p cnf 0 0\n");
     }
 
     #[test]
@@ -134,9 +138,10 @@ mod tests {
             let mut short = vec![7; length - 1];
             assert_eq!(write_block(encoding, 1, &mut short), Err(24));
             assert!(short.iter().all(|&byte| byte == 7));
-            assert_eq!(write_block(encoding, 2, &mut []), Ok(0));
+            assert_eq!(write_block(encoding, 2, &mut []), Err(24));
             assert_eq!(write_block(encoding, 4, &mut []), Err(23));
         });
+        with(E, |encoding| assert_eq!(write_block(encoding, 1, &mut []), Ok(0)));
     }
 
     #[test]

@@ -13,8 +13,8 @@ use Rattle.model.specs.Model.{zeroGroup, tableOf, constraintsOf, groupAt, group
 use Rattle.model.specs.Propagate.{literalRule, clauseRules, clauseRule, Settled}
 use Rattle.model.proofs.Lists.{All, all-imp, all-zip, places-all, every-all}
 use Rattle.propagation_laws.proofs.Fixpoint.{Unchanged, all-reduce, run-unchanged, run-fixed}
-use Rattle.propagation_laws.proofs.GroupRule.{SettledGroup}
-use Rattle.propagation_laws.proofs.ConstraintRule.{tableFrame, clause-rules}
+use Rattle.propagation_laws.proofs.GroupRule.{SettledGroup, tableFrame}
+use Rattle.propagation_laws.proofs.ConstraintRule.{clause-rules}
 use Rattle.propagation_laws.proofs.Ranges.{group-range, in-range}
 use Rattle.propagation_laws.proofs.Unchanged.{group-still, clauses-still}
 

@@ -1,5 +1,5 @@
--- The starred examples A to I of document 01, proved together as one table over the definitions, and the published DIMACS samples beside them.
--- Assumes nothing.
+-- The starred examples A to I of document 01, as request 1 has them, proved together as one table over the definitions; the limits of each code and
+-- the published DIMACS samples beside them. Assumes nothing.
 use mathlib.Core.Path.{_≡_, refl}
 use Prim.Native.Nat.{ℕ, _-_}
 use Prim.Native.Char.{code}
@@ -85,13 +85,13 @@ closesAs m s r groups =
     let c = closing m s in
     eqb (c .refusal) r && same (c .groups) (groups ++ replicate (256 - length groups) 0)
 
--- ---- A: the sheet, 2 passes, and the listing of ten clauses byte for byte
+-- ---- A: the sheet, 2 passes, and the listing of seventeen clauses byte for byte
 
 pub sheetA : String
 sheetA = "   1   3   2   1\n   2   1   1   1   1   1   1\n   2   2   0   3   1   1   0\n   3   2   1   2\n"
 
 listingA : String
-listingA = "p cnf 6 10\n1 2 -5 0\n-2 5 0\n1 -6 0\n-1 5 0\n2 -6 0\n-1 -2 6 0\n5 0\n-6 0\n-1 3 0\n-2 4 0\n"
+listingA = "p cnf 8 17\n1 2 -5 0\n-2 5 0\n1 -6 0\n-1 5 0\n2 -6 0\n-1 -2 6 0\n5 0\n-6 0\n3 4 -7 0\n-4 7 0\n3 -8 0\n-3 7 0\n4 -8 0\n-3 -4 8 0\n7 0\n-1 3 0\n-2 4 0\n"
 
 clausesA : List (List Literal)
 clausesA =
@@ -103,6 +103,13 @@ clausesA =
     ∷ (Neg 1 ∷ Neg 2 ∷ Pos 6 ∷ [])
     ∷ (Pos 5 ∷ [])
     ∷ (Neg 6 ∷ [])
+    ∷ (Pos 3 ∷ Pos 4 ∷ Neg 7 ∷ [])
+    ∷ (Neg 4 ∷ Pos 7 ∷ [])
+    ∷ (Pos 3 ∷ Neg 8 ∷ [])
+    ∷ (Neg 3 ∷ Pos 7 ∷ [])
+    ∷ (Pos 4 ∷ Neg 8 ∷ [])
+    ∷ (Neg 3 ∷ Neg 4 ∷ Pos 8 ∷ [])
+    ∷ (Pos 7 ∷ [])
     ∷ (Neg 1 ∷ Pos 3 ∷ [])
     ∷ (Neg 2 ∷ Pos 4 ∷ [])
     ∷ []
@@ -113,10 +120,10 @@ exampleA =
     settlesIn 2 sheetA
     && same (listing m) (bytes listingA)
     && same (blockText m 1) (bytes "1 2 -5 0\n-2 5 0\n1 -6 0\n-1 5 0\n2 -6 0\n-1 -2 6 0\n5 0\n-6 0\n")
-    && same (blockText m 2) []
+    && same (blockText m 2) (bytes "3 4 -7 0\n-4 7 0\n3 -8 0\n-3 7 0\n4 -8 0\n-3 -4 8 0\n7 0\n")
     && same (blockText m 3) (bytes "-1 3 0\n-2 4 0\n")
     && every (λ b. eqb (blockRefusal m b 32768) 0) (range 0 4)
-    && reads (listing m) 6 10 clausesA
+    && reads (listing m) 8 17 clausesA
     && sameClauses (clauses m) clausesA
 
 -- ---- B: four solutions, and one read back. C: refusal 28
@@ -124,10 +131,10 @@ exampleA =
 exampleB : Bool
 exampleB =
     eqb (length (solutions (modelOf sheetA))) 4
-    && closesAs (settled sheetA) "v 1 -2 3 -4 5 -6 0" 0 (1 ∷ 1 ∷ [])
+    && closesAs (settled sheetA) "v 1 -2 3 -4 5 -6 7 -8 0" 0 (1 ∷ 1 ∷ [])
 
 exampleC : Bool
-exampleC = closesAs (settled sheetA) "v 1 -2 3 -4 -5 -6 0" 28 []
+exampleC = closesAs (settled sheetA) "v 1 -2 3 -4 -5 -6 7 -8 0" 28 []
 
 -- ---- D: refusal 21
 
@@ -165,7 +172,7 @@ exampleG = eqb (treeClauseCount 3) 16 && eqb (treeOutputCount 3) 5
 exampleH : Bool
 exampleH = eqb (treeClauseCount 32) 1312 && eqb (treeOutputCount 32) 160
 
--- ---- I: 4 passes, 3 with the lines exchanged, the same table
+-- ---- I: 3 passes, 2 with the lines exchanged, the same table
 
 sheetI : String
 sheetI = "   1   1   3   2\n   2   1   0   1   1\n   2   2   0   1   1\n   2   3   0   1   0\n   3   2   1   2\n   3   2   2   3\n"
@@ -175,7 +182,7 @@ sheetI-exchanged = "   1   1   3   2\n   2   1   0   1   1\n   2   2   0   1   1
 
 exampleI : Bool
 exampleI =
-    settlesIn 4 sheetI && settlesIn 3 sheetI-exchanged
+    settlesIn 3 sheetI && settlesIn 2 sheetI-exchanged
     && sameTable (tableOf (settled sheetI)) (tableOf (settled sheetI-exchanged))
 
 -- ---- the table
@@ -234,6 +241,53 @@ trapTable = openDifference && fixedDifference && longUnion
 pub traps : T trapTable
 unfolding defs bytes same modelOf settled settlesAs openDifference fixedDifference longUnion trapTable
 traps = tt
+
+-- ---- the limits of each code (request 1), every mark open: the settled low and high of each group
+
+limitsAs : String → List ℕ → List ℕ → Bool
+limitsAs s low high = same (map (λ g. g .low) (tableOf (settled s))) low && same (map (λ g. g .high) (tableOf (settled s))) high
+
+equalLimits : Bool
+equalLimits =
+    limitsAs "   1   3   2   1\n   2   1   1   3   1   1   1\n   2   2   0   2   1   1   1\n   3   1   1   2\n" (1 ∷ 1 ∷ []) (2 ∷ 2 ∷ [])
+    && limitsAs "   1   3   2   1\n   2   1   0   2   1   1   1\n   2   2   1   3   1   1   1\n   3   1   1   2\n" (1 ∷ 1 ∷ []) (2 ∷ 2 ∷ [])
+
+-- F within G, and G's own limits that F may keep within
+withinLimits : Bool
+withinLimits =
+    limitsAs "   1   3   2   1\n   2   1   1   3   1   1   1\n   2   2   0   2   1   1   1\n   3   2   1   2\n" (1 ∷ 1 ∷ []) (2 ∷ 2 ∷ [])
+    && limitsAs "   1   3   2   1\n   2   1   0   2   1   1   1\n   2   2   1   3   1   1   1\n   3   2   1   2\n" (0 ∷ 1 ∷ []) (2 ∷ 3 ∷ [])
+
+bothLimits : Bool
+bothLimits =
+    limitsAs "   1   3   3   1\n   2   1   1   3   1   1   1\n   2   2   0   2   1   1   1\n   2   3   0   3   1   1   1\n   3   3   1   2   3\n" (1 ∷ 1 ∷ 1 ∷ []) (2 ∷ 2 ∷ 3 ∷ [])
+    && limitsAs "   1   3   3   1\n   2   1   1   3   1   1   1\n   2   2   0   3   1   1   1\n   2   3   0   2   1   1   1\n   3   3   1   2   3\n" (1 ∷ 1 ∷ 1 ∷ []) (2 ∷ 3 ∷ 2 ∷ [])
+
+-- H = F less G: G's limits neither give nor take
+lessLimits : Bool
+lessLimits = limitsAs "   1   3   3   1\n   2   1   1   3   1   1   1\n   2   2   0   2   1   1   1\n   2   3   0   1   1   1   1\n   3   5   1   2   3\n" (1 ∷ 1 ∷ 0 ∷ []) (2 ∷ 2 ∷ 1 ∷ [])
+
+-- H = F ∪ G, and H = F1 ∪ F2 ∪ F3: into H and out of it; and the sum
+eitherLimits : Bool
+eitherLimits =
+    limitsAs "   1   3   3   1\n   2   1   0   2   1   1   1\n   2   2   1   3   1   1   1\n   2   3   0   3   1   1   1\n   3   4   1   2   3\n" (1 ∷ 1 ∷ 0 ∷ []) (2 ∷ 2 ∷ 2 ∷ [])
+    && limitsAs "   1   3   3   1\n   2   1   0   3   1   1   1\n   2   2   0   1   1   1   1\n   2   3   0   1   1   1   1\n   3   4   1   2   3\n" (0 ∷ 0 ∷ 0 ∷ []) (2 ∷ 1 ∷ 1 ∷ [])
+
+unionOfThreeLimits : Bool
+unionOfThreeLimits =
+    limitsAs "   1   4   4   1\n   2   1   0   2   1   1   1   1\n   2   2   0   4   1   1   1   1\n   2   3   0   4   1   1   1   1\n   2   4   1   4   1   1   1   1\n   3   6   3   1   2   3   4\n" (1 ∷ 0 ∷ 0 ∷ 1 ∷ []) (2 ∷ 2 ∷ 2 ∷ 2 ∷ [])
+    && limitsAs "   1   4   4   1\n   2   1   0   4   1   1   1   1\n   2   2   0   1   1   1   1   1\n   2   3   0   1   1   1   1   1\n   2   4   0   1   1   1   1   1\n   3   6   3   1   2   3   4\n" (0 ∷ 0 ∷ 0 ∷ 0 ∷ []) (3 ∷ 1 ∷ 1 ∷ 1 ∷ [])
+
+-- 21 by the limits alone: two within at most one
+noRoom : Bool
+noRoom = isRefused 21 "   1   3   2   1\n   2   1   2   3   1   1   1\n   2   2   0   1   1   1   1\n   3   2   1   2\n"
+
+pub limitTable : Bool
+limitTable = equalLimits && withinLimits && bothLimits && lessLimits && eitherLimits && unionOfThreeLimits && noRoom
+
+pub limitExamples : T limitTable
+unfolding defs bytes same modelOf settled isRefused limitsAs equalLimits withinLimits bothLimits lessLimits eitherLimits unionOfThreeLimits noRoom limitTable
+limitExamples = tt
 
 -- ---- the three published DIMACS samples, as the DIMACS reader reads them
 

@@ -2,6 +2,7 @@ pub mod Lists
 pub mod Loops
 pub mod Words
 pub mod Codes
+pub mod LimitRules
 pub mod Numbers
 pub mod Solver
 pub mod Solutions

@@ -458,6 +458,11 @@ module _ {A : Type 0} where
   all-place P d (x ∷ xs) h zero l = h .0
   all-place P d (x ∷ xs) h (suc i) l = all-place P d xs (h .1) i (omega arith)
 
+  pub all-drop : (P : A → Type 0) (k : ℕ) (xs : List A) → All P xs → All P (drop k xs)
+  all-drop P zero xs h = h
+  all-drop P (suc k) [] h = tt
+  all-drop P (suc k) (x ∷ xs) h = all-drop P k xs (h .1)
+
   pub places-all : (P : A → Type 0) (d : A) (xs : List A) → ((i : ℕ) → i < length xs → P (getD xs i d)) → All P xs
   places-all P d [] h = tt
   places-all P d (x ∷ xs) h = (h 0 (omega arith), places-all P d xs (λ i l. h (suc i) (omega arith)))

@@ -14,11 +14,11 @@ use lib.Bits.{bitAnd, bitOr, bitXor, differ, and-step, or-step, xor-step}
 use lib.Count.{ones, ones-step, ones-le}
 use lib.Pow.{pow-pos, mod-pow-add, shl-exact}
 use mathlib.Core.List.{List, [], _∷_}
-use Rattle.model.specs.Lists.{every, any, range}
+use Rattle.model.specs.Lists.{every, any, total, range}
 use Rattle.model.specs.Limits.{limits}
 use Rattle.model.specs.Words.{full, less, sizeIn, size, inside, bit, has, wordWhere}
 use Rattle.model.specs.Solution.{union}
-use Rattle.model.proofs.Lists.{T-ext, every-range, range-every}
+use Rattle.model.proofs.Lists.{T-ext, every-range, range-every, All, all-imp}
 
 -- ---- a bit
 
@@ -441,6 +441,24 @@ pub has-union : (ws : List ℕ) (e : ℕ) → has (union ws) e ≡ any (λ w. ha
 unfolding union
 has-union [] e = has-zero e
 has-union (w ∷ ws) e = has-or w (union ws) e ∙ ap (λ b. has w e || b) (has-union ws e)
+
+-- a union has each of its sets, and at most as many members as they have together
+pub union-sub : (ws : List ℕ) → All (λ w. Sub w (union ws)) ws
+unfolding union
+union-sub [] = tt
+union-sub (w ∷ ws) =
+    (sub-or-l w (union ws), all-imp (λ x. Sub x (union ws)) (λ x. Sub x (bitOr w (union ws))) (λ x s. sub-trans s (sub-or-r w (union ws))) ws (union-sub ws))
+
+pub size-or : (a b : ℕ) → size (bitOr a b) ≤ size a + size b
+size-or a b =
+    let s : Sub (less (bitOr a b) b) a = record { at = λ e. omega (arith, bit-less e (bitOr a b) b, bit-or e a b) } in
+    let l : size (less (bitOr a b) b) ≤ size a = size-mono s in
+    omega (arith, size-less (bitOr a b) b (sub-or-r a b))
+
+pub size-union : (ws : List ℕ) → size (union ws) ≤ total size ws
+unfolding union
+size-union [] = omega (arith, size-zero)
+size-union (w ∷ ws) = omega (arith, size-or w (union ws), size-union ws)
 
 -- ---- the code's words
 

@@ -4,6 +4,7 @@ pub mod Limits
 pub mod Clauses
 pub mod Model
 pub mod Sheet
+pub mod LimitRules
 pub mod Propagate
 pub mod Totalizer
 pub mod Cnf

@@ -14,6 +14,7 @@ use Rattle.model.specs.Lists.{every, pairwise, range, onPlace, stop}
 use Rattle.model.specs.Words.{full, less, size, inside}
 use Rattle.model.specs.Clauses.{clausesOf}
 use Rattle.model.specs.Model.{groupAt, tableOf, constraintsOf, withTable, Sized, inRange}
+use Rattle.model.specs.LimitRules.{limitRules}
 
 -- ---- "Group rule"
 
@@ -86,8 +87,9 @@ clauseRules n before (l ∷ after) = literalRule n l (before ++ after) ∷ claus
 unfoldable pub clauseRule : ℕ → List Literal → List Group → List Group
 clauseRule n c = run (clauseRules n [] c)
 
+-- the clauses, and by request 1 the limits after them
 unfoldable pub constraintRule : ℕ → Constraint → List Group → List Group
-constraintRule n c = run (map (clauseRule n) (clausesOf c))
+constraintRule n c = run (map (clauseRule n) (clausesOf c) ++ limitRules c)
 
 -- ---- "A pass applies the group rule to groups 1..s, then the line rule to each line in order"
 

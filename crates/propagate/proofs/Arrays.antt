@@ -1,11 +1,10 @@
--- What a store to the four arrays makes of the groups, and a literal at the place of its group. Assumes nothing.
-use mathlib.Core.Path.{_≡_, refl, sym, ap, ap₂, _∙_, subst}
+-- A literal at the place of its group: whether it is false, and what making it true stores. Assumes nothing.
+use mathlib.Core.Path.{_≡_, refl, sym, ap, _∙_, subst}
 use Prim.Native.Nat.{ℕ, _-_, _<_}
 use native.Mathlib.Omega.{arith}
 use mathlib.Core.List.{List, [], _∷_}
 use lib.Bits.{bitAnd, bitOr}
 use lib.ListN.{length, getD, set}
-use lib.Seq.{set-getD}
 use Rattle.model.specs.declared.Literal.{Literal}
 use Rattle.model.specs.declared.Literal.the-variants.{Pos, Neg}
 use Rattle.model.specs.declared.Group.{Group}
@@ -15,41 +14,10 @@ use Rattle.model.specs.Words.{less}
 use Rattle.model.specs.Clauses.{ofGroup}
 use Rattle.model.specs.Model.{zeroGroup, groupAt}
 use Rattle.model.specs.Propagate.{falseIn, allFalse, fixedWith, possibleWithout, madeTrue}
-use Rattle.model.proofs.Lists.{place-length, place-agree}
-use Rattle.table.proofs.Arrays.{zipped-at, zipped-set}
+use Rattle.model.proofs.Lists.{place-length}
+use Rattle.table.proofs.Arrays.{zipped-at, fixed-stored, possible-stored}
 use Rattle.table.specs.Table.{group, zipped, Whole}
 use Rattle.propagate.specs.Flat.{Acts, AllFalse, Stands, LiteralStands}
-
--- ---- a place
-
-module _ (f p l h : List ℕ) (i : ℕ) where
-  abbrev here : Group
-  here = group (getD f i 0) (getD p i 0) (getD l i 0) (getD h i 0)
-
-  store : (r : Group → Group) (a b c d : ℕ) → group a b c d ≡ r here
-      → zipped (set f i a) (set p i b) (set l i c) (set h i d) ≡ onPlace i r (zipped f p l h)
-  store r a b c d e =
-      zipped-set f p l h i a b c d
-      ∙ place-agree i (λ g. group a b c d) r (zipped f p l h) zeroGroup (λ k. e ∙ ap r (sym (zipped-at f p l h i k)))
-
-  -- a rule of the group that stands there
-  pub rule-stored : (r : Group → Group) (g : Group) → g ≡ r (group (getD f i 0) (getD p i 0) (getD l i 0) (getD h i 0))
-      → zipped (set f i (g .fixed)) (set p i (g .possible)) (set l i (g .low)) (set h i (g .high)) ≡ onPlace i r (zipped f p l h)
-  rule-stored r g e = store r (g .fixed) (g .possible) (g .low) (g .high) e
-
-  pub fixed-stored : (w : ℕ) → zipped (set f i (bitOr (getD f i 0) w)) p l h ≡ onPlace i (fixedWith w) (zipped f p l h)
-  unfolding fixedWith
-  fixed-stored w =
-      sym (ap₂ (λ (q r : List ℕ). zipped (set f i (bitOr (getD f i 0) w)) q l r) (set-getD p i 0) (set-getD h i 0))
-      ∙ sym (ap (λ (q : List ℕ). zipped (set f i (bitOr (getD f i 0) w)) (set p i (getD p i 0)) q (set h i (getD h i 0))) (set-getD l i 0))
-      ∙ store (fixedWith w) (bitOr (getD f i 0) w) (getD p i 0) (getD l i 0) (getD h i 0) refl
-
-  pub possible-stored : (w : ℕ) → zipped f (set p i (less (getD p i 0) w)) l h ≡ onPlace i (possibleWithout w) (zipped f p l h)
-  unfolding possibleWithout
-  possible-stored w =
-      sym (ap₂ (λ (q r : List ℕ). zipped q (set p i (less (getD p i 0) w)) l r) (set-getD f i 0) (set-getD h i 0))
-      ∙ sym (ap (λ (q : List ℕ). zipped (set f i (getD f i 0)) (set p i (less (getD p i 0) w)) q (set h i (getD h i 0))) (set-getD l i 0))
-      ∙ store (possibleWithout w) (getD f i 0) (less (getD p i 0) w) (getD l i 0) (getD h i 0) refl
 
 -- ---- a literal, at the place of its group
 
@@ -71,7 +39,7 @@ module _ (f p : List ℕ) (g i w : ℕ) (e : i ≡ g - 1) (small : i < limits .g
   positive-true l h k = (ap length s ∙ place-length i (fixedWith w) (zipped f p l h) ∙ k, s ∙ ap (λ (x : ℕ). onPlace x (fixedWith w) (zipped f p l h)) e)
     where
       s : zipped (set f i (bitOr (getD f i 0) w)) p l h ≡ onPlace i (fixedWith w) (zipped f p l h)
-      s = fixed-stored f p l h i w
+      s = unfold fixedWith in fixed-stored f p l h i (fixedWith w) (bitOr (getD f i 0) w) refl
 
   pub negative-true : Acts (madeTrue (Neg g) w) f p f (set p i (less (getD p i 0) w))
   unfolding madeTrue
@@ -79,7 +47,7 @@ module _ (f p : List ℕ) (g i w : ℕ) (e : i ≡ g - 1) (small : i < limits .g
       (ap length s ∙ place-length i (possibleWithout w) (zipped f p l h) ∙ k, s ∙ ap (λ (x : ℕ). onPlace x (possibleWithout w) (zipped f p l h)) e)
     where
       s : zipped f (set p i (less (getD p i 0) w)) l h ≡ onPlace i (possibleWithout w) (zipped f p l h)
-      s = possible-stored f p l h i w
+      s = unfold possibleWithout in possible-stored f p l h i (possibleWithout w) (less (getD p i 0) w) refl
 
 -- the same for a literal of a member
 

@@ -15,10 +15,13 @@ use Rattle.model.specs.Lists.{range}
 use Rattle.model.specs.Limits.{limits}
 use Rattle.model.specs.Words.{full}
 use Rattle.model.specs.Clauses.{memberClauses, ofGroup, clausesOf}
+use Rattle.model.specs.LimitRules.{limitRules}
 use Rattle.model.specs.Propagate.{groupRuleAt, falseIn, allFalse, madeTrue, literalRule, run, clauseRules, clauseRule, constraintRule}
 use Rattle.model.proofs.Words.{entrants-full}
-use Rattle.table.specs.Table.{zipped, Whole}
-use Rattle.propagate.specs.Flat.{Changes, Acts, AllFalse, LiteralStands, clauseOf, ClauseStands}
+use Rattle.table.specs.Table.{zipped, Whole, Changes}
+use Rattle.table.proofs.Rules.{run-append, RulesLeft, rule-done, no-rule-left}
+use Rattle.limit_rule.specs.Moves.{Moves}
+use Rattle.propagate.specs.Flat.{Acts, AllFalse, LiteralStands, clauseOf, ClauseStands}
 
 -- ---- groups i + 1 to s
 
@@ -214,44 +217,40 @@ module _ (n : ℕ) (c : Constraint) (f p : List ℕ) where
     pub no-clause-left : length (memberClauses (c .code) (c .count)) ≤ j → Acts clausesAll f p f₁ p₁
     no-clause-left h = goes-end clausesAll f p (clausesFrom n c j) f₁ p₁ inv (clauses-end n c j h)
 
--- a constraint's clauses are its rule
-pub constraint-made : (n : ℕ) (c : Constraint) (f p f₁ p₁ l h : List ℕ) → Acts (run (map (clauseRule n) (clausesOf c))) f p f₁ p₁
-    → Changes (constraintRule n c) (zipped f p l h) (zipped f₁ p₁ l h)
+-- a constraint's clauses and its limits are its rule
+pub constraint-made : (n : ℕ) (c : Constraint) (f p f₁ p₁ l h l₁ h₁ : List ℕ) → Acts (run (map (clauseRule n) (clausesOf c))) f p f₁ p₁
+    → Moves (run (limitRules c)) l h l₁ h₁ → Changes (constraintRule n c) (zipped f p l h) (zipped f₁ p₁ l₁ h₁)
 unfolding constraintRule
-constraint-made n c f p f₁ p₁ l h a = a l h
+constraint-made n c f p f₁ p₁ l h l₁ h₁ a m w =
+    let cs = map (clauseRule n) (clausesOf c) in
+    let x = a l h w in
+    let y = m f₁ p₁ (x .0) in
+    (y .0, y .1 ∙ ap (run (limitRules c)) (x .1) ∙ sym (run-append cs (limitRules c) (zipped f p l h)))
+
+-- and the limits might as well come first: no clause looks at a limit, and no limit at a set
+either-first : (n : ℕ) (c : Constraint) (f p f₁ p₁ l h l₁ h₁ : List ℕ) → Acts (run (map (clauseRule n) (clausesOf c))) f p f₁ p₁
+    → Moves (run (limitRules c)) l h l₁ h₁ → Whole (zipped f p l h)
+    → run (limitRules c ++ map (clauseRule n) (clausesOf c)) (zipped f p l h) ≡ constraintRule n c (zipped f p l h)
+either-first n c f p f₁ p₁ l h l₁ h₁ a m w =
+    let cs = map (clauseRule n) (clausesOf c) in
+    let y = m f p w in
+    let x = a l₁ h₁ (y .0) in
+    run-append (limitRules c) cs (zipped f p l h)
+    ∙ ap (run cs) (sym (y .1)) ∙ sym (x .1) ∙ constraint-made n c f p f₁ p₁ l h l₁ h₁ a m w .1
 
 -- ---- constraints j + 1 to c
 
-abbrev pub constraintsFrom : ℕ → List Constraint → ℕ → List Group → List Group
-constraintsFrom n cs j = run (map (constraintRule n) (drop j cs))
-
-module _ (n : ℕ) (cs : List Constraint) (t : List Group) where
-  -- the constraints from j on make of u what all of them make of t
-  abbrev pub ConstraintsLeft : ℕ → List Group → Type 0
-  ConstraintsLeft j u = Whole t → Whole u × (run (map (constraintRule n) cs) t ≡ constraintsFrom n cs j u)
-
-  pub constraints-left : ConstraintsLeft 0 t
-  constraints-left w = (w, refl)
-
-  module _ (j : ℕ) (u : List Group) (inv : ConstraintsLeft j u) where
-    constraint-next : j < length cs → (d : Constraint) (v : List Group) → Changes (constraintRule n (getD cs j d)) u v → ConstraintsLeft (j + 1) v
-    constraint-next h d v a w =
-        let i = inv w in
-        let b = a (i .0) in (
-          b .0,
-          i .1
-              ∙ ap (λ m. run (map (constraintRule n) m) u) (drop-cons cs j d h ∙ ap (λ (k : ℕ). getD cs j d ∷ drop k cs) (sym (add-one j)))
-              ∙ ap (constraintsFrom n cs (j + 1)) (sym (b .1)),
-        )
-
-    pub no-constraint-left : length cs ≤ j → Changes (run (map (constraintRule n) cs)) t u
-    no-constraint-left h w =
-        let i = inv w in
-        (i .0, sym (i .1 ∙ ap (λ m. run (map (constraintRule n) m) u) (drop-of-length-le cs h)))
+-- those from j on make of u what all of them make of t
+abbrev pub ConstraintsLeft : ℕ → List Constraint → List Group → ℕ → List Group → Type 0
+ConstraintsLeft n cs t j u = RulesLeft (run (map (constraintRule n) cs)) (constraintRule n) cs t j u
 
 pub constraint-done : (n : ℕ) (cs : List Constraint) (c : ℕ) → c ≤ length cs → (t : List Group) (j : ℕ) (u : List Group)
     → ConstraintsLeft n (take c cs) t j u → j < c → (d : Constraint) (v : List Group) → Changes (constraintRule n (getD cs j d)) u v
     → ConstraintsLeft n (take c cs) t (j + 1) v
 constraint-done n cs c k t j u inv h d v a =
-    constraint-next n (take c cs) t j u inv (omega (arith, length-take c cs)) d v
+    rule-done (run (map (constraintRule n) (take c cs))) (constraintRule n) (take c cs) t j u inv (omega (arith, length-take c cs)) d v
     (subst (λ x. Changes (constraintRule n x) u v) (sym (getD-take c cs j d h)) a)
+
+pub no-constraint-left : (n : ℕ) (cs : List Constraint) (t : List Group) (j : ℕ) (u : List Group) → ConstraintsLeft n cs t j u → length cs ≤ j
+    → Changes (run (map (constraintRule n) cs)) t u
+no-constraint-left n cs t j u inv h = no-rule-left (run (map (constraintRule n) cs)) (constraintRule n) cs t j u inv h

@@ -15,24 +15,22 @@ use Rattle.model.specs.declared.Group.{Group}
 use Rattle.model.specs.declared.Constraint.{Constraint}
 use Rattle.model.specs.declared.Model.{Model}
 use Rattle.model.specs.declared.Propagated.{Propagated}
-use Rattle.model.specs.Lists.{every, range, onPlace, between, distinct}
+use Rattle.model.specs.Lists.{every, total, range, onPlace, between, distinct}
 use Rattle.model.specs.Limits.{limits}
 use Rattle.model.specs.Words.{full}
 use Rattle.model.specs.Clauses.{memberCount, memberClauses, ofGroup, groupsOf, clausesOf}
 use Rattle.model.specs.Model.{zeroGroup, groupAt, tableOf, constraintsOf, codeInRange, constraintInRange, inRange}
+use Rattle.model.specs.LimitRules.{raised, lowered, lowAtLeast, highAtMost, highAtMostSum, limitRules}
 use Rattle.model.specs.Propagate.{groupRule, groupRuleAt, falseIn, allFalse, fixedWith, possibleWithout, madeTrue, literalRule, run, clauseRules, clauseRule, constraintRule, rules, pass, consistent, sameTable, Outcome, contradiction, fixpoint, afterPass, iterate, outcome, refusedPropagation, propagatedAs, propagated, isFixpoint, unsettledOr}
 use Rattle.model.specs.Assignment.{variable}
 use Rattle.model.proofs.Lists.{T-true, true-T, between-le, le-between, All, all-append, all-map, all-imp, all-every, every-all, and-left, and-right, and-both, place-append, place-length}
 use Rattle.model.proofs.Codes.{by-entrant, members-below}
+use Rattle.model.proofs.LimitRules.{all-limits}
 use Rattle.propagation_laws.proofs.Ranges.{constraint-code, groups-in, member-below, InRange, in-range}
-use Rattle.table.specs.Table.{Whole}
-use Rattle.propagate.specs.Flat.{Changes}
+use Rattle.table.specs.Table.{Whole, Changes}
+use Rattle.table.proofs.Rules.{run-append}
 
 -- ---- the rules of a pass, on all places
-
-pub run-append : {X : Type 0} (a b : List (X → X)) (x : X) → run (a ++ b) x ≡ run b (run a x)
-run-append [] b x = refl
-run-append (r ∷ a) b x = run-append a b (r x)
 
 groups-length : (a k : ℕ) (t : List Group) → length (run (map groupRuleAt (range a k)) t) ≡ length t
 unfolding groupRuleAt
@@ -109,9 +107,43 @@ module _ (s : ℕ) where
   unfolding clauseRule
   local-clause n c h = local-run (clauseRules n [] c) (local-literals n [] c tt h)
 
-  local-constraint : (n : ℕ) (c : Constraint) → All (All Inside) (clausesOf c) → Local (constraintRule n c)
-  unfolding constraintRule
-  local-constraint n c h = local-run (map (clauseRule n) (clausesOf c)) (all-map Local (clauseRule n) (clausesOf c) (each (clausesOf c) h))
+  -- a limit of a group within them, by the limits of others within them
+  local-by : (i : ℕ) (r : ℕ → Group → Group) (value : List Group → ℕ) → i < s
+      → ((t u : List Group) → length t ≡ s → value (t ++ u) ≡ value t) → Local (λ t. onPlace i (r (value t)) t)
+  local-by i r value h same = record {
+    on = λ t u e.
+        let a = local-place i (r (value t)) h .on t u e in
+        (ap (λ (x : ℕ). onPlace i (r x) (t ++ u)) (same t u e) ∙ a .0, a .1);
+  }
+
+  abbrev In : ℕ → Type 0
+  In g = g - 1 < s
+
+  local-low : (g f : ℕ) → In g → In f → Local (lowAtLeast g f)
+  unfolding lowAtLeast
+  local-low g f h k =
+      local-by (g - 1) raised (λ t. groupAt t f .low) h (λ t u e. ap (λ (x : Group). x .low) (group-inside t u f e k))
+
+  local-high : (f g : ℕ) → In f → In g → Local (highAtMost f g)
+  unfolding highAtMost
+  local-high f g h k =
+      local-by (f - 1) lowered (λ t. groupAt t g .high) h (λ t u e. ap (λ (x : Group). x .high) (group-inside t u g e k))
+
+  sum-inside : (fs : List ℕ) → All In fs → (t u : List Group) → length t ≡ s → total (λ f. groupAt (t ++ u) f .high) fs ≡ total (λ f. groupAt t f .high) fs
+  sum-inside [] h t u e = refl
+  sum-inside (f ∷ fs) h t u e =
+      ap₂ _+_ (ap (λ (x : Group). x .high) (group-inside t u f e (h .0))) (sum-inside fs (h .1) t u e)
+
+  local-sum : (g : ℕ) (fs : List ℕ) → In g → All In fs → Local (highAtMostSum g fs)
+  unfolding highAtMostSum
+  local-sum g fs h k = local-by (g - 1) lowered (λ t. total (λ f. groupAt t f .high) fs) h (sum-inside fs k)
+
+  local-constraint : 0 < s → (n : ℕ) (c : Constraint) → All (All Inside) (clausesOf c) → All In (groupsOf c) → Local (constraintRule n c)
+  unfolding constraintRule limitRules
+  local-constraint some n c h k =
+      local-run (map (clauseRule n) (clausesOf c) ++ limitRules c)
+      (all-append Local (map (clauseRule n) (clausesOf c)) (limitRules c) (all-map Local (clauseRule n) (clausesOf c) (each (clausesOf c) h))
+      (all-limits Local In (omega arith) local-low local-high local-sum (c .code) (groupsOf c) k))
     where
       each : (cs : List (List Literal)) → All (All Inside) cs → All (λ x. Local (clauseRule n x)) cs
       each [] h = tt
@@ -132,11 +164,13 @@ module _ (s : ℕ) (some : 1 ≤ s) (c : Constraint) (r : T (constraintInRange s
   unfolding clausesOf
   in-range-local n =
       let cs = memberClauses (c .code) (c .count) in
-      local-constraint s n c
+      local-constraint s some n c
       (all-map (All (Inside s)) (map (ofGroup (c .groups))) cs
       (all-imp (All Below) (λ ls. All (Inside s) (map (ofGroup (c .groups)) ls))
       (λ ls h. all-map (Inside s) (ofGroup (c .groups)) ls (all-imp Below (λ l. Inside s (ofGroup (c .groups) l)) literal-inside ls h))
       cs (members-below (c .code) (c .count) (by-entrant (c .code) (c .count) (constraint-code s c r)))))
+      (all-imp (λ g. T (between 1 s g)) (λ g. g - 1 < s) (λ g h. omega (arith, between-le 1 s g h .0, between-le 1 s g h .1)) (groupsOf c)
+      (every-all (between 1 s) (groupsOf c) (groups-in s c r)))
 
 -- ---- a pass of the model is that of the arrays, at the first s places
 

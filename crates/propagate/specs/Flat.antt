@@ -10,11 +10,7 @@ use Rattle.model.specs.declared.Constraint.{Constraint}
 use Rattle.model.specs.Limits.{limits}
 use Rattle.model.specs.Clauses.{memberClauses}
 use Rattle.model.specs.Propagate.{allFalse}
-use Rattle.table.specs.Table.{zipped, Whole}
-
--- the groups t become u as the rule says
-abbrev pub Changes : (List Group → List Group) → List Group → List Group → Type 0
-Changes r t u = Whole t → Whole u × (u ≡ r t)
+use Rattle.table.specs.Table.{zipped, Whole, Changes}
 
 -- of a rule of the sets alone: from one pair of arrays to another, whatever the limits low and high are
 abbrev pub Acts : (List Group → List Group) → List ℕ → List ℕ → List ℕ → List ℕ → Type 0

@@ -12,8 +12,8 @@ ghost use Rattle.model.specs.Words.{less};
 ghost use Rattle.model.specs.Clauses.{ofGroup, clausesOf};
 ghost use Rattle.model.specs.Model.{constraintInRange};
 ghost use Rattle.model.specs.Propagate.{groupRuleAt, madeTrue, literalRule, clauseRule, constraintRule, run};
-ghost use Rattle.table.specs.Table.{zipped};
-ghost use Rattle.propagate.specs.Flat.{Changes, Acts, AllFalse, Stands, LiteralStands, clauseOf, ClauseStands, constraintOf};
+ghost use Rattle.table.specs.Table.{zipped, Changes};
+ghost use Rattle.propagate.specs.Flat.{Acts, AllFalse, Stands, LiteralStands, clauseOf, ClauseStands, constraintOf};
 use model::Constraint;
 use model::Group;
 use model::Literal;
@@ -211,21 +211,21 @@ fn clause_rules(
     }
 }
 
-// A constraint: its clauses, which leave the limits as they are.
+// A constraint: its clauses, then its limits.
 fn constraint_rule(
     fixed: &mut [u64; Model::GROUPS],
     possible: &mut [u64; Model::GROUPS],
     low: &mut [u32; Model::GROUPS],
     high: &mut [u32; Model::GROUPS],
-    ids: [u32; Model::MEMBERS],
+    l: Constraint,
     n: u32,
-    code: u32,
-    k: u32,
 )
-    requires { ⌜ T (constraintInRange (limits .groups) (constraintOf code k ids)) × (n ≤ limits .entrants) ⌝ }
-    ensures { λ r. ⌜ Changes (constraintRule n (constraintOf code k ids)) (zipped (now (fixed .entry)) (now (possible .entry)) (now (low .entry)) (now (high .entry))) (zipped (now (fixed .exit)) (now (possible .exit)) (now (low .exit)) (now (high .exit))) ⌝ }
+    requires { ⌜ T (constraintInRange (limits .groups) l) × (n ≤ limits .entrants) ⌝ }
+    ensures { λ r. ⌜ Changes (constraintRule n l) (zipped (now (fixed .entry)) (now (possible .entry)) (now (low .entry)) (now (high .entry))) (zipped (now (fixed .exit)) (now (possible .exit)) (now (low .exit)) (now (high .exit))) ⌝ }
 {
-    clause_rules(fixed, possible, ids, n, code, k);
+    let ids = l.groups;
+    clause_rules(fixed, possible, ids, n, l.code, l.count);
+    limit_rule::applied(low, high, l);
 }
 
 // Constraints 1 to c in order.
@@ -244,8 +244,7 @@ pub(crate) fn constraint_rules(
     let mut j: usize = 0;
     while j < c {
         let l = constraints[j];
-        let ids = l.groups;
-        constraint_rule(fixed, possible, low, high, ids, n, l.code, l.count);
+        constraint_rule(fixed, possible, low, high, l, n);
         j += 1;
     }
 }

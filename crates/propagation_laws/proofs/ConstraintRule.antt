@@ -12,32 +12,27 @@ use Rattle.model.specs.declared.Constraint.{Constraint}
 use Rattle.model.specs.Lists.{range}
 use Rattle.model.specs.Words.{full, bit}
 use Rattle.model.specs.Clauses.{clausesOf}
-use Rattle.model.specs.Model.{zeroGroup, groupAt}
+use Rattle.model.specs.Model.{groupAt}
+use Rattle.model.specs.LimitRules.{limitRules}
 use Rattle.model.specs.Propagate.{groupRule, falseIn, allFalse, fixedWith, possibleWithout, madeTrue, literalRule, clauseRules, clauseRule, constraintRule, groupRuleAt, rules}
 use Rattle.model.proofs.Lists.{All, all-of, all-append, all-left, all-right, all-map, map-all, all-at, all-mem}
 use Rattle.model.proofs.Words.{Sub, sub-refl, sub-trans, sub-or-l, sub-or-r, sub-or, sub-less, bit-less, bit-and}
-use Rattle.propagation_laws.proofs.Fixpoint.{Frame, Rule, run-rule, Unchanged}
-use Rattle.propagation_laws.proofs.Tables.{listFrame, place-reduces, place-keeps, place-rule, place-within}
-use Rattle.propagation_laws.proofs.GroupRule.{Narrow, narrow, is-within, groupFrame, group-rule}
-
-abbrev pub tableFrame : Frame (List Group)
-tableFrame = listFrame groupFrame
+use Rattle.propagation_laws.proofs.Fixpoint.{Rule, run-rule, Unchanged}
+use Rattle.propagation_laws.proofs.Tables.{place-reduces, place-keeps, place-rule}
+use Rattle.propagation_laws.proofs.GroupRule.{Narrow, narrow, is-within, groupFrame, group-rule, tableFrame, group-narrow}
+use Rattle.propagation_laws.proofs.LimitRules.{limit-rules}
 
 -- ---- a literal
 
 -- a narrower table has more literals settled false
 module _ (u x : List Group) (w : T (tableFrame .within u x)) where
-  at : (g : ℕ) → Narrow (groupAt u g) (groupAt x g)
-  unfolding groupAt
-  at g = narrow (groupAt u g) (groupAt x g) (place-within groupFrame zeroGroup (g - 1) u x w)
-
   false-mono : (a b : ℕ) (l : Literal) → Sub a b → Sub (falseIn x a l) (falseIn u b l)
   unfolding falseIn
   false-mono a b (Pos g) s = record {
-    at = λ e. omega (arith, bit-less e a (groupAt x g .possible), bit-less e b (groupAt u g .possible), s .at e, at g .pos .at e);
+    at = λ e. omega (arith, bit-less e a (groupAt x g .possible), bit-less e b (groupAt u g .possible), s .at e, group-narrow u x w g .pos .at e);
   }
   false-mono a b (Neg g) s = record {
-    at = λ e. omega (arith, bit-and e a (groupAt x g .fixed), bit-and e b (groupAt u g .fixed), s .at e, at g .fix .at e);
+    at = λ e. omega (arith, bit-and e a (groupAt x g .fixed), bit-and e b (groupAt u g .fixed), s .at e, group-narrow u x w g .fix .at e);
   }
 
   all-false-mono : (a b : ℕ) (ls : List Literal) → Sub a b → Sub (allFalse x a ls) (allFalse u b ls)
@@ -115,11 +110,16 @@ pub clause-rule : (n : ℕ) (c : List Literal) → Rule tableFrame (clauseRule n
 unfolding clauseRule
 clause-rule n c = run-rule tableFrame (clauseRules n [] c) (clause-rules n [] c)
 
+-- the clauses of a constraint and its limits
+pub line-rules : (n : ℕ) (c : Constraint) → All (Rule tableFrame) (map (clauseRule n) (clausesOf c) ++ limitRules c)
+line-rules n c =
+    all-append (Rule tableFrame) (map (clauseRule n) (clausesOf c)) (limitRules c)
+    (all-map (Rule tableFrame) (clauseRule n) (clausesOf c) (all-of (λ l. Rule tableFrame (clauseRule n l)) (clause-rule n) (clausesOf c)))
+    (limit-rules c)
+
 pub constraint-rule : (n : ℕ) (c : Constraint) → Rule tableFrame (constraintRule n c)
 unfolding constraintRule
-constraint-rule n c =
-    run-rule tableFrame (map (clauseRule n) (clausesOf c))
-    (all-map (Rule tableFrame) (clauseRule n) (clausesOf c) (all-of (λ l. Rule tableFrame (clauseRule n l)) (clause-rule n) (clausesOf c)))
+constraint-rule n c = run-rule tableFrame (map (clauseRule n) (clausesOf c) ++ limitRules c) (line-rules n c)
 
 pub group-rule-at : (g : ℕ) → Rule tableFrame (groupRuleAt g)
 unfolding groupRuleAt

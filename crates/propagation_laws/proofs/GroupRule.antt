@@ -10,11 +10,13 @@ use lib.Dec.{T, eqb, leb, eqb→eq, eqb-refl, leb→le, le→leb}
 use lib.Bits.{bitAnd, bitOr}
 use Rattle.model.specs.declared.Group.{Group}
 use Rattle.model.specs.Words.{size, inside}
+use Rattle.model.specs.Model.{zeroGroup, groupAt}
 use Rattle.model.specs.Propagate.{limited, cut, filled, groupRule, groupConsistent, sameGroup}
 use Rattle.model.specs.Demand.{groupWithin}
 use Rattle.model.proofs.Lists.{All, and-left, and-right, and-both}
 use Rattle.model.proofs.Words.{Sub, sub-refl, sub-trans, sub-antisym, sub-or-l, sub-or-r, sub-or, sub-and-l, sub-and-r, sub-and, inside-sub, sub-inside, size-mono, size-eq}
 use Rattle.propagation_laws.proofs.Fixpoint.{Frame, Rule, Reduces, run-unchanged, run-reduces}
+use Rattle.propagation_laws.proofs.Tables.{listFrame, place-within}
 
 -- ---- the tests as facts
 
@@ -270,3 +272,13 @@ group-rule = record {
   reduces = run-reduces groupFrame steps steps-reduce;
   keeps = λ u x c e w. is-within u (groupRule x) (rule-keeps u (settled-group u c e) x (narrow u x w));
 }
+
+-- ---- tables
+
+abbrev pub tableFrame : Frame (List Group)
+tableFrame = listFrame groupFrame
+
+-- a group of a narrower table
+pub group-narrow : (u x : List Group) → T (tableFrame .within u x) → (g : ℕ) → Narrow (groupAt u g) (groupAt x g)
+unfolding groupAt
+group-narrow u x w g = narrow (groupAt u g) (groupAt x g) (place-within groupFrame zeroGroup (g - 1) u x w)

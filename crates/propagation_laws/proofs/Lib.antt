@@ -1,6 +1,7 @@
 pub mod Fixpoint
 pub mod Tables
 pub mod GroupRule
+pub mod LimitRules
 pub mod ConstraintRule
 pub mod Meaning
 pub mod Ranges

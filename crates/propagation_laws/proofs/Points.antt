@@ -5,27 +5,29 @@ use native.Mathlib.Nat.{le-refl}
 use native.Mathlib.Omega.{arith}
 use mathlib.Core.Bool.{Bool, true, false, cond, not, _&&_, _||_}
 use mathlib.Core.List.{List, [], _∷_, _++_, map}
-use lib.Dec.{T, leb, eqb, leb→le}
-use lib.Bits.{bitAnd, bitOr, and-self, or-self}
-use lib.ListN.{length, List·getD-map}
+use lib.Dec.{T, leb, eqb, eqb→eq, leb→le}
+use lib.Bits.{bitAnd, bitOr, and-self, or-self, or-zero-r}
+use lib.ListN.{length, length-take, List·getD-map}
 use Rattle.model.specs.declared.Literal.{Literal}
 use Rattle.model.specs.declared.Literal.the-variants.{Pos, Neg}
 use Rattle.model.specs.declared.Group.{Group}
 use Rattle.model.specs.declared.Constraint.{Constraint}
 use Rattle.model.specs.declared.Model.{Model}
-use Rattle.model.specs.Lists.{every, any, pairwise, range}
+use Rattle.model.specs.Lists.{every, any, pairwise, total, range}
 use Rattle.model.specs.Words.{full, less, sizeIn, size, inside, has}
-use Rattle.model.specs.Clauses.{clausesOf}
+use Rattle.model.specs.Clauses.{memberCount, groupsOf, clausesOf}
 use Rattle.model.specs.Limits.{limits}
 use Rattle.model.specs.Model.{zeroGroup, tableOf, constraintsOf, groupAt, membersSized, constraintInRange, inRange}
+use Rattle.model.specs.LimitRules.{raised, lowered, lowAtLeast, highAtMost, highAtMostSum, lowFirst, highFirst, unionLimits, limitsOf, limitRules}
 use Rattle.model.specs.Propagate.{limited, cut, filled, groupRule, falseIn, allFalse, fixedWith, possibleWithout, madeTrue, literalRule, clauseRules, clauseRule, constraintRule, groupRuleAt, rules, groupConsistent, consistent, sameTable}
 use Rattle.model.specs.Demand.{groupWithin, within, unchanged, isCandidate}
-use Rattle.model.specs.Solution.{allowed, setOf, constraintTrue, isSolution}
-use Rattle.model.proofs.Lists.{place-same, and-left, and-right, and-both, and-assoc, any-append, All, all-of, all-append, all-map, every-all}
-use Rattle.model.proofs.Words.{sub-refl, sub-antisym, sub-or, sub-or-l, has-and, has-less, has-ext, has-sub}
+use Rattle.model.specs.Solution.{allowed, union, meaning, setOf, constraintTrue, isSolution}
+use Rattle.model.proofs.Lists.{place-same, and-left, and-right, and-both, and-assoc, any-append, All, all-of, all-append, all-map, map-all, all-imp, every-all, total-ext, total-map}
+use Rattle.model.proofs.Codes.{by-code, by-entrant, member-bound}
+use Rattle.model.proofs.LimitRules.{raised-same, lowered-same}
+use Rattle.model.proofs.Words.{Sub, sub-refl, sub-trans, sub-antisym, sub-or, sub-or-l, sub-and-l, sub-and-r, sub-less, inside-sub, size-mono, has-and, has-less, has-ext, has-sub, union-sub, size-union}
 use Rattle.propagation_laws.proofs.Fixpoint.{Unchanged, whole, run-fixed}
-use Rattle.propagation_laws.proofs.GroupRule.{group-eq, is-consistent}
-use Rattle.propagation_laws.proofs.ConstraintRule.{tableFrame}
+use Rattle.propagation_laws.proofs.GroupRule.{group-eq, is-consistent, tableFrame}
 use Rattle.propagation_laws.proofs.Meaning.{literalFor, clausesFor, clausesHold, meaning-clauses}
 use Rattle.propagation_laws.proofs.Ranges.{in-range, constraint-code}
 
@@ -186,13 +188,127 @@ module _ (d : List ℕ) where
     clauses-same n cs (λ e. and-right (any (literalFor (v e)) c) (every (any (literalFor (v e))) cs) (h e)),
   )
 
+  -- ---- limits: a set within another has no more entrants, and a union at most as many as its members together
+
+  abbrev Same : (List Group → List Group) → Type 0
+  Same r = r (points d) ≡ points d
+
+  abbrev S : ℕ → ℕ
+  S g = setOf d g
+
+  low-same : (g f : ℕ) → size (S f) ≤ size (S g) → Same (lowAtLeast g f)
+  unfolding lowAtLeast groupAt
+  low-same g f l =
+      place-same (g - 1) (raised (groupAt (points d) f .low)) (points d) zeroGroup (rw (group-of d f, group-of d g) (raised-same (size (S f)) (point (S g)) l))
+
+  high-same : (f g : ℕ) → size (S f) ≤ size (S g) → Same (highAtMost f g)
+  unfolding highAtMost groupAt
+  high-same f g l =
+      place-same (f - 1) (lowered (groupAt (points d) g .high)) (points d) zeroGroup (rw (group-of d g, group-of d f) (lowered-same (size (S g)) (point (S f)) l))
+
+  sum-same : (h : ℕ) (fs : List ℕ) → size (S h) ≤ total (λ f. size (S f)) fs → Same (highAtMostSum h fs)
+  unfolding highAtMostSum groupAt
+  sum-same h fs l =
+      let e : total (λ f. groupAt (points d) f .high) fs ≡ total (λ f. size (S f)) fs =
+      total-ext (λ f. groupAt (points d) f .high) (λ f. size (S f)) (λ f. ap (λ (g : Group). g .high) (group-of d f)) fs in
+      place-same (h - 1) (lowered (total (λ f. groupAt (points d) f .high) fs)) (points d) zeroGroup
+      (rw (e, group-of d h) (lowered-same (total (λ f. size (S f)) fs) (point (S h)) l))
+
+  low-first-same : (f g : ℕ) → Sub (S f) (S g) → All Same (lowFirst f g)
+  unfolding lowFirst
+  low-first-same f g s = (low-same g f (size-mono s), (high-same f g (size-mono s), tt))
+
+  high-first-same : (h f : ℕ) → Sub (S h) (S f) → All Same (highFirst h f)
+  unfolding highFirst
+  high-first-same h f s = (high-same h f (size-mono s), (low-same f h (size-mono s), tt))
+
+  union-same : (h : ℕ) (fs : List ℕ) → S h ≡ union (map S fs) → All Same (unionLimits h fs)
+  unfolding unionLimits
+  union-same h fs e =
+      all-append Same (map (lowAtLeast h) fs ++ map (λ f. highAtMost f h) fs) (highAtMostSum h fs ∷ [])
+      (all-append Same (map (lowAtLeast h) fs) (map (λ f. highAtMost f h) fs)
+      (all-map Same (lowAtLeast h) fs (all-imp In (λ f. Same (lowAtLeast h f)) (λ f s. low-same h f (size-mono s)) fs inside-h))
+      (all-map Same (λ f. highAtMost f h) fs (all-imp In (λ f. Same (highAtMost f h)) (λ f s. high-same f h (size-mono s)) fs inside-h)))
+      (sum-same h fs (omega (arith, ap size e, size-union (map S fs), total-map size S fs)), tt)
+    where
+      In : ℕ → Type 0
+      In f = Sub (S f) (S h)
+
+      inside-h : All (λ f. Sub (S f) (S h)) fs
+      inside-h = map-all (λ w. Sub w (S h)) S fs (subst (λ (u : ℕ). All (λ w. Sub w u) (map S fs)) (sym e) (union-sub (map S fs)))
+
+  equal-sub : (a b : ℕ) → a ≡ b → Sub a b
+  equal-sub a b e = subst (λ (w : ℕ). Sub a w) e (sub-refl a)
+
+  -- each code, by the list of its groups
+  abbrev Limits : ℕ → ℕ → List ℕ → Type 0
+  Limits k code gs = length gs ≡ memberCount code k → T (meaning code (map S gs)) → All Same (limitsOf code gs)
+
+  limits1 : (k : ℕ) (gs : List ℕ) → Limits k 1 gs
+  unfolding memberCount meaning limitsOf
+  limits1 k [] h t = absurd (omega arith)
+  limits1 k (x ∷ []) h t = absurd (omega arith)
+  limits1 k (x ∷ y ∷ gs) h t =
+      let e : S x ≡ S y = eqb→eq (S x) (S y) t in
+      all-append Same (lowFirst x y) (lowFirst y x) (low-first-same x y (equal-sub (S x) (S y) e)) (low-first-same y x (equal-sub (S y) (S x) (sym e)))
+
+  limits2 : (k : ℕ) (gs : List ℕ) → Limits k 2 gs
+  unfolding memberCount meaning limitsOf
+  limits2 k [] h t = absurd (omega arith)
+  limits2 k (x ∷ []) h t = absurd (omega arith)
+  limits2 k (x ∷ y ∷ gs) h t = low-first-same x y (inside-sub (S x) (S y) t)
+
+  limits3 : (k : ℕ) (gs : List ℕ) → Limits k 3 gs
+  unfolding memberCount meaning limitsOf
+  limits3 k [] h t = absurd (omega arith)
+  limits3 k (x ∷ []) h t = absurd (omega arith)
+  limits3 k (x ∷ y ∷ []) h t = absurd (omega arith)
+  limits3 k (x ∷ y ∷ z ∷ gs) h t =
+      let s : Sub (S x) (bitAnd (S y) (S z)) = equal-sub (S x) (bitAnd (S y) (S z)) (eqb→eq (S x) (bitAnd (S y) (S z)) t) in
+      all-append Same (highFirst x y) (highFirst x z)
+      (high-first-same x y (sub-trans s (sub-and-l (S y) (S z)))) (high-first-same x z (sub-trans s (sub-and-r (S y) (S z))))
+
+  limits4 : (k : ℕ) (gs : List ℕ) → Limits k 4 gs
+  unfolding memberCount meaning limitsOf union
+  limits4 k [] h t = absurd (omega arith)
+  limits4 k (x ∷ []) h t = absurd (omega arith)
+  limits4 k (x ∷ y ∷ []) h t = absurd (omega arith)
+  limits4 k (x ∷ y ∷ z ∷ []) h t =
+      union-same x (y ∷ z ∷ []) (eqb→eq (S x) (bitOr (S y) (S z)) t ∙ ap (bitOr (S y)) (sym (or-zero-r (S z))))
+  limits4 k (x ∷ y ∷ z ∷ w ∷ gs) h t = absurd (omega arith)
+
+  limits5 : (k : ℕ) (gs : List ℕ) → Limits k 5 gs
+  unfolding memberCount meaning limitsOf
+  limits5 k [] h t = absurd (omega arith)
+  limits5 k (x ∷ []) h t = absurd (omega arith)
+  limits5 k (x ∷ y ∷ []) h t = absurd (omega arith)
+  limits5 k (x ∷ y ∷ z ∷ gs) h t =
+      high-first-same x y (sub-trans (equal-sub (S x) (less (S y) (S z)) (eqb→eq (S x) (less (S y) (S z)) t)) (sub-less (S y) (S z)))
+
+  limits6 : (k : ℕ) (gs : List ℕ) → Limits k 6 gs
+  unfolding memberCount meaning limitsOf
+  limits6 k [] h t = absurd (omega arith)
+  limits6 k (x ∷ fs) h t = union-same x fs (eqb→eq (S x) (union (map S fs)) t)
+
+  limits-same : (s : ℕ) (c : Constraint) → T (constraintInRange s c) → limits .members ≤ length (c .groups) → T (constraintTrue d c) → All Same (limitRules c)
+  unfolding limitRules constraintTrue
+  limits-same s c r k t =
+      let gs = groupsOf c in
+      let few = member-bound (c .code) (c .count) (constraint-code s c r) in
+      by-code (λ code. Limits (c .count) code gs) (limits1 (c .count) gs) (limits2 (c .count) gs) (limits3 (c .count) gs) (limits4 (c .count) gs) (limits5 (c .count) gs) (limits6 (c .count) gs)
+      (c .code) (by-entrant (c .code) (c .count) (constraint-code s c r))
+      (unfold groupsOf in length-take (memberCount (c .code) (c .count)) (c .groups) ∙ omega (arith, few)) t
+
+  -- ---- a constraint
+
   constraint-same : (n s : ℕ) (c : Constraint) → T (constraintInRange s c) → limits .members ≤ length (c .groups) → T (constraintTrue d c)
       → constraintRule n c (points d) ≡ points d
   unfolding constraintRule clausesHold
   constraint-same n s c r k t =
-      run-fixed tableFrame (map (clauseRule n) (clausesOf c)) (points d)
-      (all-map (λ f. f (points d) ≡ points d) (clauseRule n) (clausesOf c)
-      (clauses-same n (clausesOf c) (meaning-clauses c (constraint-code s c r) k d .0 t)))
+      run-fixed tableFrame (map (clauseRule n) (clausesOf c) ++ limitRules c) (points d)
+      (all-append Same (map (clauseRule n) (clausesOf c)) (limitRules c)
+      (all-map Same (clauseRule n) (clausesOf c) (clauses-same n (clausesOf c) (meaning-clauses c (constraint-code s c r) k d .0 t)))
+      (limits-same s c r k t))
 
   constraints-same : (n s : ℕ) (cs : List Constraint) → All (λ c. T (constraintInRange s c)) cs
       → All (λ c. T (leb (limits .members) (length (c .groups)))) cs → All (λ c. T (constraintTrue d c)) cs

@@ -21,8 +21,8 @@ use Rattle.model.specs.Solution.{constraintTrue, allowed, isSolution}
 use Rattle.model.proofs.Lists.{T-true, T-ext, and-left, and-right, and-both, every-all, all-every, all-at, all-mem, all-perm, perm-mem, pairwise-length, front-take, front-drop}
 use Rattle.model.proofs.Words.{size-le, sub-le}
 use Rattle.propagation_laws.proofs.Fixpoint.{Answer, Candidate, PassesAtMost, Narrower, SameTable, parts, candidate, run-fixed, iterate-answer, iterate-passes, iterate-once, narrower, narrower-both}
-use Rattle.propagation_laws.proofs.GroupRule.{narrow, sound, slack}
-use Rattle.propagation_laws.proofs.ConstraintRule.{tableFrame, all-rules, fewer-rules}
+use Rattle.propagation_laws.proofs.GroupRule.{narrow, sound, slack, tableFrame}
+use Rattle.propagation_laws.proofs.ConstraintRule.{all-rules, fewer-rules}
 use Rattle.propagation_laws.proofs.Ranges.{group-range, is-group-range, in-range, is-in-range}
 use Rattle.propagation_laws.proofs.Points.{points, allowed-points, solution-candidate}
 

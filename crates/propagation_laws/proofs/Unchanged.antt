@@ -2,7 +2,7 @@
 use mathlib.Core.Path.{_≡_}
 use Prim.Native.Nat.{ℕ, _-_, _≤_}
 use native.Mathlib.Omega.{arith}
-use mathlib.Core.List.{List, [], _∷_, map}
+use mathlib.Core.List.{List, [], _∷_, _++_, map}
 use lib.Dec.{T}
 use lib.ListN.{length, length-take}
 use Rattle.model.specs.declared.Literal.{Literal}
@@ -12,12 +12,13 @@ use Rattle.model.specs.declared.Model.{Model}
 use Rattle.model.specs.Lists.{range}
 use Rattle.model.specs.Clauses.{clausesOf}
 use Rattle.model.specs.Model.{zeroGroup, tableOf, constraintsOf, groupAt}
+use Rattle.model.specs.LimitRules.{limitRules}
 use Rattle.model.specs.Propagate.{groupRule, clauseRules, clauseRule, constraintRule, groupRuleAt, rules, pass, groupConsistent, consistent, sameTable, isFixpoint}
 use Rattle.model.specs.Demand.{within, unchanged, isCandidate}
-use Rattle.model.proofs.Lists.{same-place, T-ext, and-left, and-right, and-both, every-getD, All, all-of, all-left, all-right, all-map, map-all, all-range}
-use Rattle.propagation_laws.proofs.Fixpoint.{Rule, Unchanged, Candidate, parts, whole, all-reduce, run-unchanged, run-fixed}
-use Rattle.propagation_laws.proofs.GroupRule.{SettledGroup, settled-group}
-use Rattle.propagation_laws.proofs.ConstraintRule.{tableFrame, clause-rules, clause-rule, all-rules}
+use Rattle.model.proofs.Lists.{same-place, T-ext, and-left, and-right, and-both, every-getD, All, all-left, all-right, map-all, all-range}
+use Rattle.propagation_laws.proofs.Fixpoint.{Unchanged, Candidate, parts, whole, all-reduce, run-unchanged, run-fixed}
+use Rattle.propagation_laws.proofs.GroupRule.{SettledGroup, settled-group, tableFrame}
+use Rattle.propagation_laws.proofs.ConstraintRule.{clause-rules, line-rules, all-rules}
 
 module _ (m : Model) where
   abbrev rs : List (List Group → List Group)
@@ -89,11 +90,10 @@ module _ (m : Model) (h : T (isFixpoint m)) where
           → All (λ c. All (λ ls. Unchanged tableFrame (clauseRules (m .n) [] ls) (tableOf m)) (clausesOf c)) cs
       each-constraint [] k = tt
       each-constraint (c ∷ cs) k =
-          let fs = map (clauseRule (m .n)) (clausesOf c) in
-          let all : All (Rule tableFrame) fs = all-map (Rule tableFrame) (clauseRule (m .n)) (clausesOf c)
-          (all-of (λ ls. Rule tableFrame (clauseRule (m .n) ls)) (clause-rule (m .n)) (clausesOf c)) in (
+          let fs = map (clauseRule (m .n)) (clausesOf c) ++ limitRules c in (
             each-clause (clausesOf c)
                 (map-all Still (clauseRule (m .n)) (clausesOf c)
-                (run-unchanged tableFrame fs (all-reduce tableFrame fs all) (tableOf m) (unfold constraintRule in k .0))),
+                (all-left Still (map (clauseRule (m .n)) (clausesOf c)) (limitRules c)
+                (run-unchanged tableFrame fs (all-reduce tableFrame fs (line-rules (m .n) c)) (tableOf m) (unfold constraintRule in k .0)))),
             each-constraint cs (k .1),
           )

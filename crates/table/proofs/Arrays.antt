@@ -6,7 +6,7 @@ use native.Mathlib.Omega.{arith}
 use mathlib.Core.Bool.{true, false, _&&_}
 use mathlib.Core.List.{List, [], _∷_, _++_}
 use lib.ListN.{length, getD, set, take, drop, replicate, length-take, length-replicate, drop-of-length-le}
-use lib.Seq.{take-all, getD-take}
+use lib.Seq.{take-all, getD-take, set-getD}
 use Rattle.model.specs.declared.Group.{Group}
 use Rattle.model.specs.declared.Model.{Model}
 use Rattle.model.specs.declared.Propagated.{Propagated}
@@ -14,7 +14,7 @@ use Rattle.model.specs.Lists.{onPlace, pairwise}
 use Rattle.model.specs.Limits.{limits}
 use Rattle.model.specs.Model.{zeroGroup, withTable}
 use Rattle.model.specs.Propagate.{sameGroup, sameTable, fixpoint, propagatedAs}
-use Rattle.model.proofs.Lists.{place-set, seam-next, seam-end}
+use Rattle.model.proofs.Lists.{place-set, place-agree, seam-next, seam-end}
 use Rattle.model.proofs.Loops.{drop-next}
 use Rattle.table.specs.Table.{group, zipped, Whole, placesOf}
 
@@ -53,6 +53,32 @@ zipped-set (x ∷ f) (y ∷ p) (z ∷ l) [] zero a b c d = refl
 zipped-set (x ∷ f) (y ∷ p) (z ∷ l) [] (suc i) a b c d = refl
 zipped-set (x ∷ f) (y ∷ p) (z ∷ l) (u ∷ h) zero a b c d = refl
 zipped-set (x ∷ f) (y ∷ p) (z ∷ l) (u ∷ h) (suc i) a b c d = ap {B = List Group} (λ t. group x y z u ∷ t) (zipped-set f p l h i a b c d)
+
+-- a store that is a rule of the group there: to all four arrays, or to one of them
+module _ (f p l h : List ℕ) (i : ℕ) (r : Group → Group) where
+  abbrev pub Stored : ℕ → ℕ → ℕ → ℕ → Type 0
+  Stored a b c d = group a b c d ≡ r (group (getD f i 0) (getD p i 0) (getD l i 0) (getD h i 0))
+
+  stored : (a b c d : ℕ) → Stored a b c d → zipped (set f i a) (set p i b) (set l i c) (set h i d) ≡ onPlace i r (zipped f p l h)
+  stored a b c d e =
+      zipped-set f p l h i a b c d
+      ∙ place-agree i (λ g. group a b c d) r (zipped f p l h) zeroGroup (λ k. e ∙ ap r (sym (zipped-at f p l h i k)))
+
+  pub rule-stored : (g : Group) → Stored (g .fixed) (g .possible) (g .low) (g .high)
+      → zipped (set f i (g .fixed)) (set p i (g .possible)) (set l i (g .low)) (set h i (g .high)) ≡ onPlace i r (zipped f p l h)
+  rule-stored g e = stored (g .fixed) (g .possible) (g .low) (g .high) e
+
+  pub fixed-stored : (a : ℕ) → Stored a (getD p i 0) (getD l i 0) (getD h i 0) → zipped (set f i a) p l h ≡ onPlace i r (zipped f p l h)
+  fixed-stored a e = rw (set-getD p i 0, set-getD l i 0, set-getD h i 0) at (stored a (getD p i 0) (getD l i 0) (getD h i 0) e)
+
+  pub possible-stored : (b : ℕ) → Stored (getD f i 0) b (getD l i 0) (getD h i 0) → zipped f (set p i b) l h ≡ onPlace i r (zipped f p l h)
+  possible-stored b e = rw (set-getD f i 0, set-getD l i 0, set-getD h i 0) at (stored (getD f i 0) b (getD l i 0) (getD h i 0) e)
+
+  pub low-stored : (c : ℕ) → Stored (getD f i 0) (getD p i 0) c (getD h i 0) → zipped f p (set l i c) h ≡ onPlace i r (zipped f p l h)
+  low-stored c e = rw (set-getD f i 0, set-getD p i 0, set-getD h i 0) at (stored (getD f i 0) (getD p i 0) c (getD h i 0) e)
+
+  pub high-stored : (d : ℕ) → Stored (getD f i 0) (getD p i 0) (getD l i 0) d → zipped f p l (set h i d) ≡ onPlace i r (zipped f p l h)
+  high-stored d e = rw (set-getD f i 0, set-getD p i 0, set-getD l i 0) at (stored (getD f i 0) (getD p i 0) (getD l i 0) d e)
 
 -- ---- a loop that reads the groups into arrays
 

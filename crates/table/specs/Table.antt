@@ -28,3 +28,7 @@ Whole t = length t ≡ limits .groups
 -- how many of the first s places there are
 abbrev pub placesOf : ℕ → ℕ
 placesOf s = min s (limits .groups)
+
+-- the groups t become u as a rule says
+abbrev pub Changes : (List Group → List Group) → List Group → List Group → Type 0
+Changes r t u = Whole t → Whole u × (u ≡ r t)

@@ -1,12 +1,14 @@
 //! One case of the comparison: a call's input, the kind of case it is, and whether both sides answer alike.
 use super::calls::{settled, Calls, Counterpart};
 use super::certificates::{self, CertificateCase};
+use super::limits;
 use super::models::{self, ModelCase};
 use crate::encode::Encoding;
 use crate::listing::listing;
 use crate::model::GROUPS;
 use crate::refusal::*;
 use crate::settle::Settled;
+use crate::sheet::read;
 
 #[derive(Clone, Debug)]
 pub enum Case {
@@ -49,7 +51,7 @@ pub const SAMPLE: Kind = "line: answers to the published samples";
 
 /// Every kind of case, in the order of the report. A run that misses one has failed.
 pub fn kinds() -> impl Iterator<Item = Kind> {
-    KINDS.iter().chain(models::KINDS).chain(certificates::KINDS).copied()
+    KINDS.iter().copied().chain(limits::kinds()).chain(models::KINDS.iter().chain(certificates::KINDS).copied())
 }
 
 const KINDS: &[Kind] = &[
@@ -213,6 +215,9 @@ fn check_settle(sheet: &[u8], spare: isize, other: &dyn Calls, outcome: &mut Out
             1024
         }
     };
+    if let (Ok(model), 0..) = (read(sheet), spare) {
+        limits::met(&model).into_iter().for_each(|kind| outcome.note(kind));
+    }
     let mut ours = junk_words(words.saturating_add_signed(spare));
     let mut theirs = ours.clone();
     outcome.compare("refusal * 65536 + passes", Counterpart.settle(sheet, &mut ours), other.settle(sheet, &mut theirs));

@@ -2,6 +2,7 @@
 use super::answers;
 use super::calls::{given, Calls, Counterpart};
 use super::case::{junk, junk_words, Kind, Outcome};
+use super::limits::{unsettled_alone, widened};
 use super::random::Random;
 use crate::encode::Encoding;
 use crate::model::Model;
@@ -53,17 +54,22 @@ pub const KINDS: &[Kind] = &[
     "model: 20 by k",
     "model: 20 by a group number",
     "model: settled",
+    "model: settled already",
+    "model: settled by limits alone",
     "model: 20 of settling",
     "model: 21 of settling",
+    "model: 21 of settling by limits alone",
     "model: 24 of settling",
     "model: block",
     "model: 20 of a block",
     "model: 22 of a block",
+    "model: 22 of a block by limits alone",
     "model: 23 of a block",
     "model: 24 of a block",
     "model: closed",
     "model: 20 of closing",
     "model: 22 of closing",
+    "model: 22 of closing by limits alone",
     "model: 26, 27 or 28 of closing",
     "model: sheet",
     "model: sheet in a buffer exactly long enough",
@@ -115,8 +121,11 @@ impl ModelCase {
         let mut theirs = ours.clone();
         let answer = Counterpart.settle_model(&self.words, &mut ours);
         outcome.note(match (answer >> 16) as u32 {
+            0 if answer == 1 => "model: settled already",
+            0 if unsettled_alone(&self.words) => "model: settled by limits alone",
             0 => "model: settled",
             OUT_OF_RANGE => "model: 20 of settling",
+            CONTRADICTION if unsettled_alone(&self.words) => "model: 21 of settling by limits alone",
             CONTRADICTION => "model: 21 of settling",
             _ => "model: 24 of settling",
         });
@@ -132,6 +141,7 @@ impl ModelCase {
         outcome.note(match (answer >> 32) as u32 {
             0 => "model: block",
             OUT_OF_RANGE => "model: 20 of a block",
+            UNSETTLED if unsettled_alone(&self.words) => "model: 22 of a block by limits alone",
             UNSETTLED => "model: 22 of a block",
             NO_BLOCK => "model: 23 of a block",
             _ => "model: 24 of a block",
@@ -147,6 +157,7 @@ impl ModelCase {
         outcome.note(match answer {
             0 => "model: closed",
             OUT_OF_RANGE => "model: 20 of closing",
+            UNSETTLED if unsettled_alone(&self.words) => "model: 22 of closing by limits alone",
             UNSETTLED => "model: 22 of closing",
             _ => "model: 26, 27 or 28 of closing",
         });
@@ -176,10 +187,11 @@ impl ModelCase {
     }
 }
 
-/// A case on the model of a sheet, as it is or settled, often with one word changed.
+/// A case on the model of a sheet, as it is or settled, or with one limit wider again, often with one word changed.
 pub fn case(random: &mut Random, sheet: &[u8], draw: Option<&[u64]>) -> Option<ModelCase> {
     let read = sheet::read(sheet).ok()?;
     let model = match settle(read.clone()) {
+        Some(settled) if random.chance(20) => widened(random, settled.model()),
         Some(settled) if random.chance(75) => settled.model().clone(),
         _ => read,
     };

@@ -2,6 +2,7 @@
 use super::answers;
 use super::calls::settled;
 use super::case::{Case, Kind};
+use super::limits;
 use super::random::Random;
 use super::sheets;
 use super::shrink::shrink;
@@ -115,7 +116,7 @@ fn same_lines(printed: &str, wanted: &str) -> bool {
 
 /// A sheet, valid or damaged, and an answer for it.
 fn sample(random: &mut Random) -> (Vec<u8>, Vec<u8>) {
-    let sample = sheets::valid(random);
+    let sample = if random.chance(15) { limits::sample(random) } else { sheets::valid(random) };
     if random.chance(30) {
         return (sheets::damaged(random, &sample.sheet), b"v 0\n".to_vec());
     }

@@ -3,7 +3,7 @@ use super::calls::{settled, Calls};
 use super::case::{check, kinds, Case, Kind, SAMPLE};
 use super::random::Random;
 use super::shrink::shrink;
-use super::{answers, certificates, models, samples, sheets};
+use super::{answers, certificates, limits, models, samples, sheets};
 use crate::encode::Encoding;
 use crate::listing::listing;
 use std::collections::BTreeMap;
@@ -85,6 +85,9 @@ pub fn batch(random: &mut Random) -> Vec<Case> {
     if random.chance(4) {
         return certificates::cases(random).into_iter().map(Case::Certificate).collect();
     }
+    if random.chance(10) {
+        return limits_batch(random);
+    }
     let sample = sheets::valid(random);
     if random.chance(45) {
         return damaged_batch(random, &sample.sheet);
@@ -101,6 +104,17 @@ pub fn batch(random: &mut Random) -> Vec<Case> {
         cases.extend(models::case(random, &sheet, sample.draw.as_deref()).map(Case::Model));
     }
     cases.push(close_case(random, sheet, sample.draw.as_deref()));
+    cases
+}
+
+/// The cases made from one sheet in which limits travel.
+fn limits_batch(random: &mut Random) -> Vec<Case> {
+    let sample = limits::sample(random);
+    let mut cases = vec![Case::Settle { sheet: sample.sheet.clone(), spare: random.pick(&[0, 1]) }, block_case(random, &sample.sheet)];
+    for _ in 0..3 {
+        cases.extend(models::case(random, &sample.sheet, sample.draw.as_deref()).map(Case::Model));
+    }
+    cases.push(close_case(random, sample.sheet, sample.draw.as_deref()));
     cases
 }
 
@@ -288,6 +302,15 @@ mod tests {
     }
 
     #[test]
+    fn settling_in_which_no_limit_passes_is_caught() {
+        let settle = |sheet: &[u8], table: &mut [u64]| match (crate::sheet::read(sheet), Counterpart.settle(sheet, table)) {
+            (Ok(model), answer) if answer >> 16 == 21 && limits::by_marks(&model).is_some() => 2,
+            (_, answer) => answer,
+        };
+        is_caught(Broken { settle, ..SOUND }, "limits: 21 by code 2 alone", "difference in settle: 21");
+    }
+
+    #[test]
     fn a_byte_written_past_the_block_is_caught() {
         let block = |sheet: &[u8], block, buffer: &mut [u8]| {
             let answer = Counterpart.block(sheet, block, buffer);
@@ -386,7 +409,7 @@ mod tests {
     #[test]
     fn a_checker_that_writes_on_a_refused_sheet_is_caught() {
         let certify = |sheet: &[u8], certificate: &[u8], lent: &mut Lent| {
-            lent.index[0] = 0;
+            lent.index.iter_mut().take(1).for_each(|word| *word = 0);
             Counterpart.certify(sheet, certificate, lent)
         };
         is_caught(Broken { certify, ..SOUND }, "certify: sheet refused", "index at 0");

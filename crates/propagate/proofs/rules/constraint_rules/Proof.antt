@@ -1,10 +1,11 @@
 -- `constraint_rules` is the rule of the constraints in order. Invariant: those from j on remain. Assumes nothing.
 use Prim.Native.Nat.{_≤_, _-_}
+use mathlib.Core.Path.{refl}
 use native.Mathlib.Omega.{arith}
 use lib.ListN.{take, length-take}
 use Rattle.model.specs.Limits.{limits}
 use Rattle.table.specs.Table.{zipped}
-use Rattle.propagate.proofs.Loops.{ConstraintsLeft, constraints-left, constraint-done, no-constraint-left}
+use Rattle.propagate.proofs.Loops.{ConstraintsLeft, constraint-done, no-constraint-left}
 use Rattle.propagate.proofs.Members.{constraint-at}
 use Rattle.propagate.proofs.rules.constraint_rules.Statement.{statement}
 use Rattle.propagate.proofs.rules.constraint_rules.Tie as tie
@@ -17,7 +18,7 @@ abbrev μ-loop : tie.MeasureT-loop
 μ-loop fixed₀ possible₀ low₀ high₀ n c constraints j₀ fixed possible low high j = c - j
 
 loop-holds : tie.Need-loop-holds Inv-loop μ-loop
-loop-holds c = (omega arith, constraints-left (c .args .n) (take (c .args .c) (c .args .t5)) _)
+loop-holds c = (omega arith, λ w. (w, refl))
 
 mul-l : tie.Need-mul-l Inv-loop μ-loop
 mul-l c = omega arith
@@ -27,8 +28,8 @@ array-copy-out-l c = omega arith
 
 constraint-rule-requires : tie.Need-constraint-rule-requires Inv-loop μ-loop
 constraint-rule-requires c κs =
-    let s = c .before .before .before .before .before .before .before .before in (
-      constraint-at (limits .groups) (s .args .t5) (s .args .c) (c .before .before .before .before .before .before .before .loop .j) _ (s .pre .1 .0) (omega arith) (omega (arith, s .good .1 .1 .1 .1 .0, s .pre .0)),
+    let s = c .before .before .before .before .before .before .before in (
+      constraint-at (limits .groups) (s .args .t5) (s .args .c) (c .before .before .before .before .before .before .loop .j) _ (s .pre .1 .0) (omega arith) (omega (arith, s .good .1 .1 .1 .1 .0, s .pre .0)),
       s .pre .1 .1,
     )
 
@@ -40,10 +41,10 @@ loop-less c = omega arith
 
 loop-again : tie.Need-loop-again Inv-loop μ-loop
 loop-again c =
-    let s = c .before .before .before .before .before .before .before .before .before in (
+    let s = c .before .before .before .before .before .before .before .before in
+    let l = c .before .before .before .before .before .before .before .loop in (
       omega arith,
-      constraint-done (s .args .n) (s .args .t5) (s .args .c) (omega (arith, s .good .1 .1 .1 .1 .0, s .pre .0)) _ (c .before .before .before .before .before .before .before .before .loop .j) _
-          (c .before .before .before .before .before .before .before .before .loop .inv .1) (omega arith) _ _ (c .constraint-rule .ensures),
+      constraint-done (s .args .n) (s .args .t5) (s .args .c) (omega (arith, s .good .1 .1 .1 .1 .0, s .pre .0)) _ (l .j) _ (l .inv .1) (omega arith) _ _ (c .constraint-rule .ensures),
     )
 
 returns : tie.Need-returns Inv-loop μ-loop

@@ -4,7 +4,7 @@ use mathlib.Core.Path.{_≡_, ap, _∙_}
 use Rattle.model.specs.Lists.{onPlace}
 use Rattle.model.specs.Propagate.{groupRule, groupRuleAt}
 use Rattle.table.specs.Table.{zipped}
-use Rattle.propagate.proofs.Arrays.{rule-stored}
+use Rattle.table.proofs.Arrays.{rule-stored}
 use native.Mathlib.Omega.{arith}
 use borrow.Author.Needs.{needs}
 use Rattle.propagate.proofs.rules.group_rule_at.Statement.{statement}
