@@ -1,5 +1,5 @@
 #!/usr/bin/env python3
-"""`check.py SHEET < TABLE`: whether the groups that `draw` printed are a draw of the sheet. Knows the paper, not the programs."""
+"""`check.py SHEET < GROUPS`: whether the groups that `draw` printed are a draw of the sheet. Knows the paper, not the programs."""
 import sys
 
 
@@ -35,7 +35,7 @@ def faults(rows, groups):
 
 
 sheet = [[int(field) for field in line.split()] for line in open(sys.argv[1])]
-table = [[int(word) for word in line.replace("-", "").split()] for line in sys.stdin.readlines()[1:]]
-wrong = list(faults(sheet, {number: set(entrants) for number, *entrants in table}))
+lines = [line.split(":") for line in sys.stdin]
+wrong = list(faults(sheet, {int(number): set(map(int, entrants.split())) for number, entrants in lines}))
 print("\n".join(wrong) if wrong else "a draw")
 sys.exit(1 if wrong else 0)

@@ -6,6 +6,8 @@ import sys
 
 BARRED, OPEN, FIXED = 0, 1, 2
 WITHIN, BOTH, EITHER, LESS, UNION = 2, 3, 4, 5, 6
+# what a line's first group is of its others
+FIRST = {BOTH: set.intersection, EITHER: set.union, LESS: set.difference, UNION: set.union}
 
 
 class Sheet:
@@ -30,6 +32,13 @@ class Sheet:
         whole = self.group(low, high, **marks)
         self.line(UNION, whole, *parts)
         return whole
+
+    def draw(self, sets):
+        """A draw as text, a group a line, from the sets of some groups by number: the others are what lines make of these."""
+        for code, *groups in self.lines:
+            first, *others = groups[1:] if code == UNION else groups
+            sets.setdefault(first, FIRST[code](*[sets[group] for group in others]))
+        return "".join(" ".join([f"{number}:", *map(str, sorted(sets[number]))]) + "\n" for number in range(1, len(self.groups) + 1))
 
     def text(self):
         rows = [[1, self.entrants, len(self.groups), len(self.lines)]]
@@ -59,11 +68,10 @@ def golfers(tables, size, weeks, first=True, later=True):
     return sheet
 
 
-def bridge_season():
+def bridge_season(away=((13, 14), (), (2,))):
     """Fourteen members, three evenings of three tables with two pairs each. No partners twice, no table that shares three members
-    with an earlier one, nobody sits out twice. 13 and 14 cannot come on the first evening, 2 on the third; 1 runs table 1; 3 and 4 play together once."""
+    with an earlier one, nobody sits out twice. Some are away: by default 13 and 14 on the first evening, 2 on the third. 1 runs table 1; 3 and 4 play together once."""
     sheet = Sheet(14)
-    away = [(13, 14), (), (2,)]
     everyone = sheet.group(14, 14)
     pairs, tables, out = [], [], []
     for evening, absent in enumerate(away):
@@ -83,6 +91,22 @@ def bridge_season():
         for f, g in itertools.product(one, other):
             sheet.share(high, f, g)
     return sheet
+
+
+# the pairs of last season's evenings
+LAST_SEASON = [
+    [{4, 9}, {1, 2}, {7, 11}, {8, 10}, {5, 6}, {3, 12}],
+    [{8, 12}, {1, 10}, {11, 13}, {9, 14}, {2, 7}, {3, 4}],
+    [{4, 10}, {1, 11}, {5, 12}, {13, 14}, {6, 7}, {3, 8}],
+]
+
+
+def bridge_last_season():
+    """Last season's draw of `bridge_season`, whoever is away now: group 1 is everyone, the pairs of the evenings begin at groups 2, 13 and 24."""
+    sets = {1: set(range(1, 15))}
+    for first, pairs in zip((2, 13, 24), LAST_SEASON):
+        sets.update(enumerate(pairs, first))
+    return bridge_season().draw(sets)
 
 
 def bridge_long_season():
@@ -157,15 +181,21 @@ SHEETS = {
     "golf-3-2-6": (golfers(3, 2, 6), "no draw"),
     "bridge-16": (golfers(4, 4, 5), "draw"),
     "bridge-season": (bridge_season(), "draw"),
+    "bridge-next-season": (bridge_season(away=((13, 14), (6,), (2, 9))), "last season's draw"),
+    "bridge-next-season-5-away": (bridge_season(away=((5, 14), (), (2,))), "another draw"),
     "bridge-long-season": (bridge_long_season(), "draw"),
     "bridge-clash": (bridge_clash(), "no draw"),
     "bridge-five-at-a-table": (bridge_five_at_a_table(), "no draw, settled out"),
     "bridge-pairs-within-tables": (bridge_pairs_within_tables(), "draw"),
     "bridge-too-few-places": (bridge_too_few_places(), "no draw, settled out"),
 }
+# draws to start from
+GROUPS = {name: bridge_last_season() for name in ("bridge-next-season", "bridge-next-season-5-away")}
 
 if __name__ == "__main__":
     folder = pathlib.Path(sys.argv[1] if len(sys.argv) > 1 else pathlib.Path(__file__).parent)
     for name, (sheet, answer) in SHEETS.items():
         (folder / f"{name}.sheet").write_text(sheet.text())
         (folder / f"{name}.expected").write_text(answer + "\n")
+    for name, groups in GROUPS.items():
+        (folder / f"{name}.groups").write_text(groups)

@@ -5,6 +5,7 @@ pub mod clauses;
 pub mod close;
 pub mod compare;
 pub mod encode;
+pub mod fill;
 pub mod listing;
 pub mod model;
 #[cfg(proved)]

@@ -8,9 +8,11 @@ extern "C" {
     fn draw_blocks(sheet: *const u8, sheet_len: usize, block: u32, buffer: *mut u8, buffer_len: usize) -> u64;
     fn draw_line(closed: u32, line: *const u8, line_len: usize, marks: *mut u8, marks_len: usize) -> u32;
     fn draw_close(sheet: *const u8, sheet_len: usize, closed: u32, marks: *const u8, marks_len: usize, groups: *mut u64, groups_len: usize) -> u32;
+    fn draw_fill(sheet: *const u8, sheet_len: usize, groups: *const u64, groups_len: usize, marks: *mut u8, marks_len: usize) -> u32;
     fn draw_settle_model(words: *const u64, words_len: usize, table: *mut u64, table_len: usize) -> u64;
     fn draw_block_model(words: *const u64, words_len: usize, block: u32, buffer: *mut u8, buffer_len: usize) -> u64;
     fn draw_close_model(words: *const u64, words_len: usize, closed: u32, marks: *const u8, marks_len: usize, groups: *mut u64, groups_len: usize) -> u32;
+    fn draw_fill_model(words: *const u64, words_len: usize, groups: *const u64, groups_len: usize, marks: *mut u8, marks_len: usize) -> u32;
     fn draw_write_model(words: *const u64, words_len: usize, buffer: *mut u8, buffer_len: usize) -> u64;
     fn draw_certify(
         sheet: *const u8,
@@ -55,6 +57,11 @@ impl Calls for Proved {
     fn close(&self, sheet: &[u8], closed: u32, marks: &[u8], groups: &mut [u64]) -> u32 {
         unsafe { draw_close(sheet.as_ptr(), sheet.len(), closed, marks.as_ptr(), marks.len(), groups.as_mut_ptr(), groups.len()) }
     }
+
+    fn fill(&self, sheet: &[u8], groups: &[u64], marks: &mut [u8]) -> u32 {
+        unsafe { draw_fill(sheet.as_ptr(), sheet.len(), groups.as_ptr(), groups.len(), marks.as_mut_ptr(), marks.len()) }
+    }
+
     fn settle_model(&self, words: &[u64], table: &mut [u64]) -> u64 {
         unsafe { draw_settle_model(words.as_ptr(), words.len(), table.as_mut_ptr(), table.len()) }
     }
@@ -65,6 +72,10 @@ impl Calls for Proved {
 
     fn close_model(&self, words: &[u64], closed: u32, marks: &[u8], groups: &mut [u64]) -> u32 {
         unsafe { draw_close_model(words.as_ptr(), words.len(), closed, marks.as_ptr(), marks.len(), groups.as_mut_ptr(), groups.len()) }
+    }
+
+    fn fill_model(&self, words: &[u64], groups: &[u64], marks: &mut [u8]) -> u32 {
+        unsafe { draw_fill_model(words.as_ptr(), words.len(), groups.as_ptr(), groups.len(), marks.as_mut_ptr(), marks.len()) }
     }
 
     fn write_model(&self, words: &[u64], buffer: &mut [u8]) -> u64 {

@@ -23,3 +23,4 @@ pub const CLOSED: u32 = 25;
 pub const MARKS: u32 = 26;
 pub const UNSAID: u32 = 27;
 pub const FALSE_CLAUSE: u32 = 28;
+pub const NO_DRAW: u32 = 30;

@@ -15,7 +15,7 @@ use Rattle.model.specs.Text.{decimal}
 use Rattle.encoding_laws.proofs.Decimal.{decimal-bound}
 use Rattle.text.specs.Put.{Wrote, placed, placeAfter}
 use Rattle.text.proofs.Writes.{no-room, then, kept, front}
-use Rattle.answer.specs.Values.{valueText, valueAt, saidText, valuesText, writtenValues, valuesBuffer, unsaidCount}
+use Rattle.answer.specs.Values.{valueText, valueAt, saidText, valuesText, unsaidCount, writtenText, textBuffer}
 use Rattle.answer.proofs.Writing.{then-put, each-length, fits}
 
 -- ---- a value
@@ -33,7 +33,7 @@ module _ (x v : ℕ) where
   unfolding valueText
   value-none n m = rw (ne-eqb x 1 n, ne-eqb x 2 m)
 
-  value-length : v ≤ 65536 → length (valueText x v) ≤ 7
+  pub value-length : v ≤ 65536 → length (valueText x v) ≤ 7
   unfolding valueText
   value-length h = go (eqb x 1) (eqb x 2)
     where
@@ -68,26 +68,26 @@ module _ (values : List ℕ) where
   unfolding valuesText
   line-wrote xs room v e p q = then-put (10 ∷ []) (then v e) p q (omega (arith, room))
 
--- ---- measured in an array of its own and copied
+-- ---- a text of values, measured in an array of its own and copied
 
-module _ (values buf : List ℕ) where
-  pub many : 65536 < length values → (Refused 26 ≡ writtenValues values (length buf)) × (buf ≡ valuesBuffer values buf)
-  unfolding writtenValues valuesBuffer
+module _ (values text buf : List ℕ) where
+  pub many : 65536 < length values → (Refused 26 ≡ writtenText values text (length buf)) × (buf ≡ textBuffer values text buf)
+  unfolding writtenText textBuffer
   many h = (rw (lt-ltb 65536 (length values) h), rw (lt-ltb 65536 (length values) h))
 
-  module _ (few : length values ≤ 65536) {xs ys : List ℕ} {n : ℕ} (w : Wrote (valuesText values) 0 xs ys n) where
-    pub long : length buf < n → (Refused 24 ≡ writtenValues values (length buf)) × (buf ≡ valuesBuffer values buf)
-    unfolding writtenValues valuesBuffer
+  module _ (few : length values ≤ 65536) {xs ys : List ℕ} {n : ℕ} (w : Wrote text 0 xs ys n) where
+    pub long : length buf < n → (Refused 24 ≡ writtenText values text (length buf)) × (buf ≡ textBuffer values text buf)
+    unfolding writtenText textBuffer
     long h =
-        let l : length buf < length (valuesText values) = omega (arith, w .next) in
-        (rw (le-ltb 65536 (length values) few, lt-ltb _ _ l), rw (le-ltb 65536 (length values) few) (no-room (valuesText values) buf 0 (omega arith) .1))
+        let l : length buf < length text = omega (arith, w .next) in
+        (rw (le-ltb 65536 (length values) few, lt-ltb _ _ l), rw (le-ltb 65536 (length values) few) (no-room text buf 0 (omega arith) .1))
 
     pub copied : (after : List ℕ) → n ≤ length buf → after ≡ placed (take n ys) 0 buf
-        → (Bytes n ≡ writtenValues values (length buf)) × (after ≡ valuesBuffer values buf)
-    unfolding writtenValues valuesBuffer
+        → (Bytes n ≡ writtenText values text (length buf)) × (after ≡ textBuffer values text buf)
+    unfolding writtenText textBuffer
     copied after h p =
-        let e : n ≡ length (valuesText values) = omega (arith, w .next) in (
-          rw (le-ltb 65536 (length values) few, e, le-ltb (length buf) (length (valuesText values)) (omega arith)),
+        let e : n ≡ length text = omega (arith, w .next) in (
+          rw (le-ltb 65536 (length values) few, e, le-ltb (length buf) (length text) (omega arith)),
           rw (le-ltb 65536 (length values) few) (p ∙ ap (λ (t : List ℕ). placed t 0 buf) (front w)),
         )
 
@@ -116,10 +116,10 @@ unsaid-le (x ∷ values) = go (isSaid x) refl (unsaid-le values)
     go true e ih = rw (e, those) (omega arith)
     go false e ih = rw (e, those) (omega arith)
 
-pub values-inside : (values : List ℕ) (room n : ℕ) → Bytes n ≡ writtenValues values room → n ≤ room
-unfolding writtenValues
-values-inside values room n e = go (ltb 65536 (length values)) e
+pub text-inside : (values text : List ℕ) (room n : ℕ) → Bytes n ≡ writtenText values text room → n ≤ room
+unfolding writtenText
+text-inside values text room n e = go (ltb 65536 (length values)) e
   where
-    go : (t : Bool) → Bytes n ≡ cond t (Refused 26) (cond (ltb room (length (valuesText values))) (Refused 24) (Bytes (length (valuesText values)))) → n ≤ room
+    go : (t : Bool) → Bytes n ≡ cond t (Refused 26) (cond (ltb room (length text)) (Refused 24) (Bytes (length text))) → n ≤ room
     go true e = let z : _≡_ {A = ℕ} 0 1 = cc in omega arith
-    go false e = fits room (length (valuesText values)) n e
+    go false e = fits room (length text) n e

@@ -24,15 +24,17 @@ saidText values = each (valueAt values) (range 0 (length values))
 unfoldable pub valuesText : List ℕ → List ℕ
 valuesText values = (118 ∷ []) ++ saidText values ++ (10 ∷ [])
 
--- 26 of more values than a listing of 65,536 variables has; 24 where the buffer is shorter than the text
-unfoldable pub writtenValues : List ℕ → ℕ → Written
-writtenValues values room =
-    cond (ltb 65536 (length values)) (Refused 26)
-    (cond (ltb room (length (valuesText values))) (Refused 24) (Bytes (length (valuesText values))))
-
-unfoldable pub valuesBuffer : List ℕ → List ℕ → List ℕ
-valuesBuffer values buf = cond (ltb 65536 (length values)) buf (placed (valuesText values) 0 buf)
-
 -- how many variables no line said
 unfoldable pub unsaidCount : List ℕ → ℕ
 unsaidCount values = length (those (λ x. not (isSaid x)) values)
+
+-- ---- a text of values in a buffer: this one, or that of an assignment
+
+-- 26 of more values than a listing of 65,536 variables has; 24 where the buffer is shorter than the text
+unfoldable pub writtenText : List ℕ → List ℕ → ℕ → Written
+writtenText values text room =
+    cond (ltb 65536 (length values)) (Refused 26)
+    (cond (ltb room (length text)) (Refused 24) (Bytes (length text)))
+
+unfoldable pub textBuffer : List ℕ → List ℕ → List ℕ → List ℕ
+textBuffer values text buf = cond (ltb 65536 (length values)) buf (placed text 0 buf)

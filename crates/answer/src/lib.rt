@@ -1,4 +1,4 @@
-// A solver's answer as text: the groups of a draw, a line for each, and the values of the variables.
+// A solver's answer as text: the groups of a draw, a line for each, and the values of the variables; and an assignment as a solver would say it.
 ghost use mathlib.Core.Path.{_≡_};
 ghost use Prim.Native.Nat.{_+_, _≤_, _<_, min};
 ghost use lib.ListN.{length};
@@ -6,7 +6,8 @@ ghost use Rattle.model.specs.Lists.{each, range};
 ghost use Rattle.model.specs.Assignment.{isSaid};
 ghost use Rattle.model.specs.Limits.{limits};
 ghost use Rattle.text.specs.Put.{Wrote, placed};
-ghost use Rattle.answer.specs.Values.{valueText, saidText, valuesText, writtenValues, valuesBuffer, unsaidCount};
+ghost use Rattle.answer.specs.Values.{valueText, saidText, valuesText, unsaidCount, writtenText, textBuffer};
+ghost use Rattle.answer.specs.Assignment.{wordText, columnAfter, assignmentText};
 ghost use Rattle.answer.specs.Groups.{entrantText, entrantsText, groupText, groupAt, groupsText, writtenGroups};
 use model::Model;
 use model::Written;
@@ -159,8 +160,8 @@ fn values_space() -> [u8; VALUES_MOST]
 
 // The line of the values that are said; 26 of more than 65,536 values, 24 where the buffer is shorter than the text, and then no byte changes.
 pub fn write_values(values: &[u8], buf: &mut [u8]) -> Written
-    ensures { λ r. ⌜ r ≡ writtenValues (now (values .entry)) (length (now (buf .entry))) ⌝ }
-    ensures { λ r. ⌜ now (buf .exit) ≡ valuesBuffer (now (values .entry)) (now (buf .entry)) ⌝ }
+    ensures { λ r. ⌜ r ≡ writtenText (now (values .entry)) (valuesText (now (values .entry))) (length (now (buf .entry))) ⌝ }
+    ensures { λ r. ⌜ now (buf .exit) ≡ textBuffer (now (values .entry)) (valuesText (now (values .entry))) (now (buf .entry)) ⌝ }
 {
     if VARIABLES < values.len() {
         return Written::Refused(26);
@@ -196,4 +197,98 @@ pub fn unsaid(values: &[u8]) -> usize
         i += 1;
     }
     k
+}
+
+// ---- an assignment, on `v` lines
+
+// The most columns of a line.
+const COLUMNS: usize = 78;
+
+// The most bytes of a value's word: a space, a minus sign and up to five digits.
+const WORD_MOST: usize = 7;
+
+// The most bytes of the text: each word, and the newline and `v` that it may begin with; the closing 0, the first `v` and the last newline.
+const ASSIGNMENT_MOST: usize = 589830;
+
+// Where the next word goes: its place, and how many columns of the line are taken.
+struct Pen {
+    at: usize,
+    column: usize,
+}
+
+// A word, on a new line where this one has no room for it.
+fn put_word(buf: &mut [u8], pen: Pen, word: &[u8]) -> Pen
+    requires { ⌜ pen .column + length (now word) ≤ 100 ⌝ }
+    requires { ⌜ pen .at + length (wordText (pen .column) (now word)) ≤ length (now buf) ⌝ }
+    ensures { λ r. ⌜ Wrote (wordText (pen .column) (now (word .entry))) (pen .at) (now (buf .entry)) (now (buf .exit)) (r .at) ⌝ }
+    ensures { λ r. ⌜ r .column ≡ columnAfter (pen .column) (now (word .entry)) ⌝ }
+{
+    if pen.column + word.len() <= COLUMNS {
+        let a = text::put_bytes(buf, pen.at, word);
+        return Pen {
+            at: a,
+            column: pen.column + word.len(),
+        };
+    }
+    let b = text::put_bytes(buf, pen.at, b"\nv");
+    let c = text::put_bytes(buf, b, word);
+    Pen {
+        at: c,
+        column: 1 + word.len(),
+    }
+}
+
+// The word of a value, which a local array measures.
+fn put_value_word(buf: &mut [u8], pen: Pen, x: u8, v: u32) -> Pen
+    requires { ⌜ (v ≤ 65536) × (pen .column ≤ 78) ⌝ }
+    requires { ⌜ pen .at + length (wordText (pen .column) (valueText x v)) ≤ length (now buf) ⌝ }
+    ensures { λ r. ⌜ Wrote (wordText (pen .column) (valueText x v)) (pen .at) (now (buf .entry)) (now (buf .exit)) (r .at) ⌝ }
+    ensures { λ r. ⌜ r .column ≡ columnAfter (pen .column) (valueText x v) ⌝ }
+{
+    let mut word: [u8; WORD_MOST] = [0; WORD_MOST];
+    let n = put_value(&mut word, 0, x, v);
+    put_word(buf, pen, &word[..n])
+}
+
+fn put_assignment(buf: &mut [u8], values: &[u8]) -> usize
+    requires { ⌜ length (now values) ≤ 65536 ⌝ }
+    requires { ⌜ length (assignmentText (now values)) ≤ length (now buf) ⌝ }
+    ensures { λ r. ⌜ Wrote (assignmentText (now (values .entry))) 0 (now (buf .entry)) (now (buf .exit)) r ⌝ }
+{
+    let start = text::put_bytes(buf, 0, b"v");
+    let mut pen = Pen {
+        at: start,
+        column: 1,
+    };
+    let mut i: usize = 0;
+    while i < values.len() {
+        let next = put_value_word(buf, pen, values[i], i as u32 + 1);
+        pen = next;
+        i += 1;
+    }
+    let last = put_word(buf, pen, b" 0");
+    text::put_bytes(buf, last.at, b"\n")
+}
+
+fn assignment_space() -> [u8; ASSIGNMENT_MOST]
+    ensures { λ r. ⌜ length r ≡ 589830 ⌝ }
+{
+    [0; ASSIGNMENT_MOST]
+}
+
+// The values on `v` lines with a closing 0; 26 of more than 65,536 values, 24 where the buffer is shorter than the text, and then no byte changes.
+pub fn write_assignment(values: &[u8], buf: &mut [u8]) -> Written
+    ensures { λ r. ⌜ r ≡ writtenText (now (values .entry)) (assignmentText (now (values .entry))) (length (now (buf .entry))) ⌝ }
+    ensures { λ r. ⌜ now (buf .exit) ≡ textBuffer (now (values .entry)) (assignmentText (now (values .entry))) (now (buf .entry)) ⌝ }
+{
+    if VARIABLES < values.len() {
+        return Written::Refused(26);
+    }
+    let mut all = assignment_space();
+    let n = put_assignment(&mut all, values);
+    if buf.len() < n {
+        return Written::Refused(24);
+    }
+    text::put_bytes(buf, 0, &all[..n]);
+    Written::Bytes(n)
 }

@@ -92,7 +92,7 @@ pub decimal-some : (v : ℕ) → 0 < length (decimal v)
 decimal-some = by-digits (λ v ds. 0 < length ds) (λ v h. omega arith) (λ v ds h e. omega (arith, length-append ds ((48 + v % 10) ∷ [])))
 
 -- no needless leading zero
-decimal-first : (v : ℕ) → 1 ≤ v → 49 ≤ getD (decimal v) 0 0
+pub decimal-first : (v : ℕ) → 1 ≤ v → 49 ≤ getD (decimal v) 0 0
 decimal-first =
     λ v h. by-digits (λ v ds. (0 < length ds) × (1 ≤ v → 49 ≤ getD ds 0 0)) (λ v l. (omega arith, λ k. omega arith))
     (λ v ds l e. let some = e .0 in (

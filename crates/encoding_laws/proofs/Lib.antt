@@ -7,6 +7,7 @@ pub mod Groups
 pub mod Fixpoint
 pub mod Nonempty
 pub mod Row
+pub mod Values
 pub mod Whole
 pub mod Ranges
 pub mod Decimal

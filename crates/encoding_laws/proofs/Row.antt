@@ -1,18 +1,18 @@
 -- A group's word and the values of its variables: each word between fixed and possible is read back from one list of values. Assumes nothing.
 use mathlib.Core.Path.{_≡_, refl, sym, ap, ap₂, _∙_}
 use mathlib.Core.Bool.{Bool, true, false, _&&_, _||_, cond}
-use mathlib.Core.List.{List, [], _∷_, map, head-eq-of-cons-eq, tail-eq-of-cons-eq}
+use mathlib.Core.List.{List, [], _∷_, _++_, map, head-eq-of-cons-eq, tail-eq-of-cons-eq}
 use Prim.Native.Nat.{ℕ, zero, suc, _+_, _*_, _/_, _%_, _^_, _≤_, _<_}
 use native.Mathlib.Nat.{add-zero, zero-add, add-assoc}
 use native.Mathlib.Omega.{arith}
 use native.Mathlib.Decide.{decLt}
 use lib.Dec.{eqb}
 use lib.ListN.{length}
-use Rattle.model.specs.Lists.{range}
+use Rattle.model.specs.Lists.{those, each, range}
 use Rattle.model.specs.Words.{size, bit, has, wordWhere}
+use Rattle.model.specs.Fill.{openValues, count}
 use Rattle.model.proofs.Words.{bit-first, bit-next, bit-le, bit-past, has-first, has-next, has-one, has-none, has-where, word-first, word-ext, where-lt, size-step, size-zero, size-below}
 use Rattle.model.proofs.Lists.{values-append}
-use Rattle.encoding_laws.proofs.Tree.{count}
 
 -- bit e of the group's word, where f are fixed and o open, with variables from v on: fixed, or open with a true variable
 abbrev pub inRow : (ℕ → Bool) → ℕ → ℕ → ℕ → ℕ → Bool
@@ -21,14 +21,42 @@ inRow α f o v e = has f e || (has o e && α (v + size (o % 2 ^ e)))
 unfoldable pub rowWord : (ℕ → Bool) → ℕ → ℕ → ℕ → ℕ → ℕ
 rowWord α n f o v = wordWhere (inRow α f o v) n
 
--- the values of the open entrants of a word w, in order
+-- ---- the values of the open entrants, entrant by entrant and digit by digit
+
+pub open-each : (n o w : ℕ) → openValues n o w ≡ each (λ e. cond (has o e) (has w e ∷ []) []) (range 0 n)
+unfolding openValues
+open-each n o w = go (range 0 n)
+  where
+    go : (es : List ℕ) → map (has w) (those (has o) es) ≡ each (λ e. cond (has o e) (has w e ∷ []) []) es
+    go [] = refl
+    go (e ∷ es) = one (has o e) (go es)
+      where
+        one : (b : Bool) → map (has w) (those (has o) es) ≡ each (λ e. cond (has o e) (has w e ∷ []) []) es
+            → map (has w) (elim b [ true ↦ e ∷ those (has o) es | false ↦ those (has o) es ]) ≡ cond b (has w e ∷ []) [] ++ each (λ e. cond (has o e) (has w e ∷ []) []) es
+        one true ih = ap (λ (xs : List Bool). has w e ∷ xs) ih
+        one false ih = ih
+
 abbrev putValue : ℕ → ℕ → List Bool → List Bool
 putValue zero w xs = xs
 putValue (suc o) w xs = eqb w 1 ∷ xs
 
-abbrev pub openValues : ℕ → ℕ → ℕ → List Bool
-openValues zero o w = []
-openValues (suc n) o w = putValue (o % 2) (w % 2) (openValues n (o / 2) (w / 2))
+open-step : (n o w : ℕ) → openValues (suc n) o w ≡ putValue (o % 2) (w % 2) (openValues n (o / 2) (w / 2))
+open-step n o w =
+    open-each (suc n) o w
+    ∙ ap₂ (λ (a b : List Bool). a ++ b) (ap₂ (λ (a b : Bool). cond a (b ∷ []) []) (has-first o) (has-first w))
+    (each-next (λ e. cond (has o e) (has w e ∷ []) []) (λ e. cond (has (o / 2) e) (has (w / 2) e ∷ []) []) 0 0 n
+    (λ e. ap₂ (λ (a b : Bool). cond a (b ∷ []) []) (has-next o e) (has-next w e)))
+    ∙ ap (λ (xs : List Bool). cond (eqb (o % 2) 1) (eqb (w % 2) 1 ∷ []) [] ++ xs) (sym (open-each n (o / 2) (w / 2)))
+    ∙ put (o % 2) (omega arith) (openValues n (o / 2) (w / 2))
+  where
+    each-next : (f g : ℕ → List Bool) (i j k : ℕ) → ((e : ℕ) → f (suc e) ≡ g e) → each f (range (suc j) k) ≡ each g (range j k)
+    each-next f g i j zero h = refl
+    each-next f g i j (suc k) h = ap₂ (λ (a b : List Bool). a ++ b) (h j) (each-next f g i (suc j) k h)
+
+    put : (b : ℕ) → b ≤ 1 → (xs : List Bool) → cond (eqb b 1) (eqb (w % 2) 1 ∷ []) [] ++ xs ≡ putValue b (w % 2) xs
+    put zero l xs = refl
+    put (suc zero) l xs = refl
+    put (suc (suc b)) l xs = absurd (omega arith)
 
 -- no entrant is both fixed and open
 pub record Apart (f o : ℕ) : Type 0 where
@@ -121,9 +149,10 @@ module _ (α : ℕ → Bool) where
 
   -- the values are read off the word
   pub row-values : (n f o v : ℕ) → o < 2 ^ n → Apart f o → openValues n o (rowWord α n f o v) ≡ map α (range v (size o))
-  row-values zero f o v ho a = let q : o ≡ 0 = omega arith in rw (q, size-zero)
+  row-values zero f o v ho a = let q : o ≡ 0 = omega arith in rw (q, size-zero) (unfold openValues in refl)
   row-values (suc n) f o v ho a =
-      ap₂ (λ (x y : ℕ). putValue (o % 2) x (openValues n (o / 2) y)) (row-first n f o v) (row-half n f o v)
+      open-step n o (rowWord α (suc n) f o v)
+      ∙ ap₂ (λ (x y : ℕ). putValue (o % 2) x (openValues n (o / 2) y)) (row-first n f o v) (row-half n f o v)
       ∙ ap (putValue (o % 2) (digit (f % 2) (o % 2) (α v))) (row-values n (f / 2) (o / 2) (v + o % 2) (omega arith) (apart-next f o a))
       ∙ by-digit (λ x y. putValue y (digit x y (α v)) (map α (range (v + y) (size (o / 2)))) ≡ map α (range v (y + size (o / 2))))
       (rw (add-zero v, zero-add (size (o / 2))))
@@ -150,7 +179,7 @@ module _ (α : ℕ → Bool) where
       (λ l u k. open-case (w % 2) rest u refl (rw (values-append α v 1 (size (o / 2))) at k))
       (λ l u k. closed-case 1 rest (omega arith) k)
       (f % 2) (o % 2) (apart-first f o a) (omega (arith, h .low 0, bit-first f, bit-first w)) (omega (arith, h .high 0, bit-first f, bit-first o, bit-first w))
-      (ap (λ (k : ℕ). map α (range v k)) (sym (size-step o)) ∙ e)
+      (ap (λ (k : ℕ). map α (range v k)) (sym (size-step o)) ∙ e ∙ open-step n o w)
     where
       Rest : Type 0
       Rest = (u : ℕ) → map α (range u (size (o / 2))) ≡ openValues n (o / 2) (w / 2) → rowWord α n (f / 2) (o / 2) u ≡ w / 2
@@ -195,9 +224,9 @@ module _ (α : ℕ → Bool) where
               omega (arith, has-none w e (has-where (inRow α f o v) n e l ∙ ap₂ (λ (x y : Bool). x || (y && α (v + size (o % 2 ^ e)))) p q))
       snd e (no l) = omega (arith, bit-past n e w (where-lt (inRow α f o v) n) (omega arith))
 
-pub openValues-length : (n o w : ℕ) → o < 2 ^ n → length (openValues n o w) ≡ size o
-openValues-length zero o w h = let q : o ≡ 0 = omega arith in rw (q, size-zero)
-openValues-length (suc n) o w h = go (o % 2) refl (openValues-length n (o / 2) (w / 2) (omega arith)) ∙ sym (size-step o)
+pub open-length : (n o w : ℕ) → o < 2 ^ n → length (openValues n o w) ≡ size o
+open-length zero o w h = let q : o ≡ 0 = omega arith in rw (q, size-zero) (unfold openValues in refl)
+open-length (suc n) o w h = ap length (open-step n o w) ∙ go (o % 2) refl (open-length n (o / 2) (w / 2) (omega arith)) ∙ sym (size-step o)
   where
     go : (b : ℕ) → o % 2 ≡ b → length (openValues n (o / 2) (w / 2)) ≡ size (o / 2)
         → length (putValue b (w % 2) (openValues n (o / 2) (w / 2))) ≡ b + size (o / 2)

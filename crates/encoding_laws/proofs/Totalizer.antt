@@ -14,10 +14,11 @@ use Rattle.model.specs.declared.Literal.the-variants.{Pos, Neg}
 use Rattle.model.specs.Lists.{range}
 use Rattle.model.specs.Totalizer.{nodeClauses, leaf, node, shapeIn, shape, leaves, outputs, rootOutput, treeClauses, unit, unitClauses, totalizerClauses}
 use Rattle.model.specs.Close.{truth, literalTrue, clauseTrue}
+use Rattle.model.specs.Fill.{count}
 use Rattle.model.proofs.Lists.{T-true, T-false, every-map, every-range, range-every}
 use Rattle.encoding_laws.proofs.Truth.{allTrue, allTrue-append}
 use Rattle.encoding_laws.proofs.Node.{Unary}
-use Rattle.encoding_laws.proofs.Tree.{Filled, valuesFrom, count, trues, trues-le, filled-root, tree-iff}
+use Rattle.encoding_laws.proofs.Tree.{Filled, valuesFrom, trues, trues-le, filled-root, tree-iff}
 
 T-or : (b : Bool) → T (b || false) ↔ T b
 T-or true = (λ t. t, λ t. t)

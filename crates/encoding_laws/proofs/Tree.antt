@@ -12,31 +12,18 @@ use lib.Seq.{take-at, drop-at}
 use Rattle.model.specs.Lists.{range}
 use Rattle.model.specs.Totalizer.{nodeClauses, Shape, leaf, node, leaves, outputs, rootOutput, treeClauses}
 use Rattle.model.specs.Close.{truth}
+use Rattle.model.specs.Fill.{count, unary, treeValues}
 use Rattle.model.proofs.Lists.{values-get, values-make, values-append, values-length, append-iff}
 use Rattle.encoding_laws.proofs.Truth.{allTrue, allTrue-append}
 use Rattle.encoding_laws.proofs.Node.{Unary, node→, node←}
 
 -- ---- what the outputs must be
 
--- how many are true
-abbrev pub count : List Bool → ℕ
-count [] = 0
-count (true ∷ xs) = suc (count xs)
-count (false ∷ xs) = count xs
-
-abbrev pub unary : ℕ → ℕ → List Bool
-unary m x = map (λ i. ltb i x) (range 0 m)
-
--- the values of a tree's outputs, in their order, from the values of its leaves
-abbrev pub fill : Shape → List Bool → List Bool
-fill leaf xs = []
-fill (node l r) xs = fill l (take (leaves l) xs) ++ (fill r (drop (leaves l) xs) ++ unary (leaves l + leaves r) (count xs))
-
-pub length-fill : (s : Shape) (xs : List Bool) → length (fill s xs) ≡ outputs s
-length-fill leaf xs = refl
-length-fill (node l r) xs =
-    let u = length-fill l (take (leaves l) xs) in
-    let w = length-fill r (drop (leaves l) xs) in
+pub tree-values-length : (s : Shape) (xs : List Bool) → length (treeValues s xs) ≡ outputs s
+tree-values-length leaf xs = refl
+tree-values-length (node l r) xs =
+    let u = tree-values-length l (take (leaves l) xs) in
+    let w = tree-values-length r (drop (leaves l) xs) in
     let z = values-length (λ i. ltb i (count xs)) 0 (leaves l + leaves r) in
     simp length-append (omega arith)
 
@@ -57,7 +44,7 @@ module _ (a : List Bool) where
 
   -- the outputs from o on are those of the leaves from v on
   abbrev pub Filled : Shape → ℕ → ℕ → Type 0
-  Filled s v o = valuesFrom o (outputs s) ≡ fill s (valuesFrom v (leaves s))
+  Filled s v o = valuesFrom o (outputs s) ≡ treeValues s (valuesFrom v (leaves s))
 
   unfoldable pub trues : ℕ → ℕ → ℕ
   trues v m = count (valuesFrom v m)
@@ -93,9 +80,9 @@ module _ (a : List Bool) where
           values-append (truth a) (o + outputs l) (outputs r) (leaves l + leaves r),
         )
 
-    theirs : fill (node l r) (valuesFrom v (leaves l + leaves r))
-        ≡ fill l (valuesFrom v (leaves l))
-        ++ (fill r (valuesFrom (v + leaves l) (leaves r)) ++ unary (leaves l + leaves r) (trues v (leaves l) + trues (v + leaves l) (leaves r)))
+    theirs : treeValues (node l r) (valuesFrom v (leaves l + leaves r))
+        ≡ treeValues l (valuesFrom v (leaves l))
+        ++ (treeValues r (valuesFrom (v + leaves l) (leaves r)) ++ unary (leaves l + leaves r) (trues v (leaves l) + trues (v + leaves l) (leaves r)))
     unfolding trues
     theirs =
         let k = values-length (truth a) v (leaves l) in
@@ -111,14 +98,14 @@ module _ (a : List Bool) where
         let n : ℕ = o + outputs l + outputs r in
         let x : ℕ = trues v (leaves l) + trues (v + leaves l) (leaves r) in
         let m : ℕ = leaves l + leaves r in
-        let fl = fill l (valuesFrom v (leaves l)) in
-        let fr = fill r (valuesFrom (v + leaves l) (leaves r)) in
+        let fl = treeValues l (valuesFrom v (leaves l)) in
+        let fr = treeValues r (valuesFrom (v + leaves l) (leaves r)) in
         let p =
         append-iff (valuesFrom o (outputs l)) (valuesFrom (o + outputs l) (outputs r) ++ valuesFrom n m) fl (fr ++ unary m x)
-        (values-length (truth a) o (outputs l) ∙ sym (length-fill l (valuesFrom v (leaves l)))) in
+        (values-length (truth a) o (outputs l) ∙ sym (tree-values-length l (valuesFrom v (leaves l)))) in
         let q =
         append-iff (valuesFrom (o + outputs l) (outputs r)) (valuesFrom n m) fr (unary m x)
-        (values-length (truth a) (o + outputs l) (outputs r) ∙ sym (length-fill r (valuesFrom (v + leaves l) (leaves r)))) in
+        (values-length (truth a) (o + outputs l) (outputs r) ∙ sym (tree-values-length r (valuesFrom (v + leaves l) (leaves r)))) in
         let u = unary-iff n m x in (
           λ e. let e′ = p .0 (sym ours ∙ e ∙ theirs) in
               let e″ = q .0 (e′ .1) in

@@ -17,7 +17,7 @@ use Rattle.model.specs.declared.Term.the-variants.{Holds, Fails, Open}
 use Rattle.model.specs.declared.Group.{Group}
 use Rattle.model.specs.declared.Constraint.{Constraint}
 use Rattle.model.specs.declared.Model.{Model}
-use Rattle.model.specs.Lists.{every, any, pairwise, each, total, range, between}
+use Rattle.model.specs.Lists.{every, any, pairwise, each, eachPair, total, range, between}
 use Rattle.model.specs.Limits.{limits}
 use Rattle.model.specs.Words.{size, inside, has}
 use Rattle.model.specs.Clauses.{byEntrant, memberCount, memberClauses, clausesOf}
@@ -27,11 +27,12 @@ use Rattle.model.specs.Totalizer.{shape, totalizerClauses, treeOutputCount}
 use Rattle.model.specs.Cnf.{openOf, openCount, atLeast, atMost, counted, outputsOf, firstVariable, firstOutput, variableOf, tableVariables, variableCount, groupClauses, membership, termOf, clausesAt, constraintClauses, clauses}
 use Rattle.model.specs.Solution.{allowed, setOf, constraintTrue, isSolution}
 use Rattle.model.specs.Close.{truth, termTrue, clauseTrue, satisfying, groupBy, groupsBy}
+use Rattle.model.specs.Fill.{count, openValues, variableValues, treeValues, outputValues, assignmentFor}
 use Rattle.model.specs.Demand.{isAssignment, isSatisfying}
 use Rattle.model.proofs.Words.{Sub, sub-inside, inside-sub, sub-less, sub-le, size-less, bit-less, bit-le, has-less, word-ext, where-lt, has-where}
 use Rattle.model.proofs.Lists.{T-true, T-false, and-left, and-right, and-both, every-each, every-map, every-ext, any-ext, every-range-ext, every-all-ext, values-make, values-append, values-length, append-iff, All, all-imp, all-zip, all-map-iff, all-of, all-getD, every-all, getD-map-in, range-getD, range-length}
 use Rattle.encoding_laws.proofs.Truth.{allTrue, allTrue-append, T-and, opposite-true, kept-true}
-use Rattle.encoding_laws.proofs.Tree.{count, fill, length-fill, valuesFrom, count-le}
+use Rattle.encoding_laws.proofs.Tree.{tree-values-length, valuesFrom, count-le}
 use Rattle.encoding_laws.proofs.Totalizer.{totalizer-iff, leaves-shape}
 use Rattle.encoding_laws.proofs.Counts.{outputs-count}
 use Rattle.encoding_laws.proofs.Groups.{table-length, clauses-parts, overGroups, numbered}
@@ -40,7 +41,7 @@ use Rattle.propagation_laws.proofs.Ranges.{in-range, constraint-code, member-gr
 use Rattle.propagation_laws.proofs.Meaning.{literalFor, clausesFor, clausesHold, over-members, same-clauses, meaning-below}
 use Rattle.encoding_laws.proofs.Fixpoint.{SettledAmong, table-settled}
 use Rattle.model.proofs.Codes.{by-entrant}
-use Rattle.encoding_laws.proofs.Row.{inRow, rowWord, openValues, Apart, Holding, row-size, row-values, row-of, row-holding, openValues-length}
+use Rattle.encoding_laws.proofs.Row.{inRow, rowWord, Apart, Holding, row-size, row-values, row-of, row-holding, open-length}
 
 -- ---- one group
 
@@ -91,14 +92,14 @@ fixed-lt n r s = let h = sub-le (s .group .fits) in omega (arith, s .small)
 
 -- the values of a group's outputs
 unfoldable fillOf : Group → List Bool → List Bool
-fillOf r xs = cond (counted r) (fill (shape (openCount r)) xs) []
+fillOf r xs = cond (counted r) (treeValues (shape (openCount r)) xs) []
 
 length-fillOf : (r : Group) (xs : List Bool) → length (fillOf r xs) ≡ outputsOf r
 unfolding fillOf outputsOf
 length-fillOf r xs = go (counted r)
   where
-    go : (b : Bool) → length (cond b (fill (shape (openCount r)) xs) []) ≡ cond b (treeOutputCount (openCount r)) 0
-    go true = length-fill (shape (openCount r)) xs ∙ outputs-count (openCount r)
+    go : (b : Bool) → length (cond b (treeValues (shape (openCount r)) xs) []) ≡ cond b (treeOutputCount (openCount r)) 0
+    go true = tree-values-length (shape (openCount r)) xs ∙ outputs-count (openCount r)
     go false = refl
 
 -- a group's clauses, and its word
@@ -134,7 +135,7 @@ module _ (n : ℕ) (a : List Bool) (r : Group) (v o : ℕ) (s : SettledAmong n r
 
       go : (b : Bool) → counted r ≡ b
           → T (allTrue a (cond b (totalizerClauses m v o (atLeast r) (atMost r)) []))
-          ↔ ((valuesFrom a o (cond b (treeOutputCount m) 0) ≡ cond b (fill (shape m) (valuesFrom a v m)) []) × InLimits)
+          ↔ ((valuesFrom a o (cond b (treeOutputCount m) 0) ≡ cond b (treeValues (shape m) (valuesFrom a v m)) []) × InLimits)
       go true c =
           let h1 : 1 ≤ m = counted-pos (atLeast r) (atMost r) m (l .low-open) (subst T (sym c) tt) in
           let w = totalizer-iff a m v o (atLeast r) (atMost r) h1 (l .low-open) (l .high-open) in (
@@ -217,23 +218,35 @@ length-fillAll (r ∷ rs) xs =
     ∙ ap₂ (λ (a b : ℕ). a + b) (length-fillOf r (take (openCount r) xs)) (length-fillAll rs (drop (openCount r) xs))
 
 -- the values of the groups' variables, from the sets
-abbrev valuesOf : ℕ → List Group → List ℕ → List Bool
-valuesOf n [] d = []
-valuesOf n (r ∷ rs) [] = []
-valuesOf n (r ∷ rs) (w ∷ ws) = openValues n (openOf r) w ++ valuesOf n rs ws
+abbrev variablesBy : ℕ → List Group → List ℕ → List Bool
+variablesBy n = eachPair (variableValues n)
 
-values-total : (n : ℕ) (t : List Group) (d : List ℕ) → All (SettledAmong n) t → T (pairwise allowed t d) → length (valuesOf n t d) ≡ total openCount t
+values-total : (n : ℕ) (t : List Group) (d : List ℕ) → All (SettledAmong n) t → T (pairwise allowed t d) → length (variablesBy n t d) ≡ total openCount t
 unfolding openCount
 values-total n [] [] s h = refl
 values-total n [] (w ∷ ws) s h = absurd h
 values-total n (r ∷ rs) [] s h = absurd h
 values-total n (r ∷ rs) (w ∷ ws) s h =
-    length-append (openValues n (openOf r) w) (valuesOf n rs ws)
-    ∙ ap₂ (λ (a b : ℕ). a + b) (openValues-length n (openOf r) w (open-lt n r (s .0)))
+    length-append (openValues n (openOf r) w) (variablesBy n rs ws)
+    ∙ ap₂ (λ (a b : ℕ). a + b) (open-length n (openOf r) w (open-lt n r (s .0)))
     (values-total n rs ws (s .1) (and-right (allowed r w) (pairwise allowed rs ws) h))
 
+-- the values of all outputs, from the sets
+outputs-by : (n : ℕ) (t : List Group) (d : List ℕ) → All (SettledAmong n) t → T (pairwise allowed t d)
+    → fillAll t (variablesBy n t d) ≡ eachPair (outputValues n) t d
+unfolding fillOf outputValues openCount
+outputs-by n [] [] s h = refl
+outputs-by n [] (w ∷ ws) s h = absurd h
+outputs-by n (r ∷ rs) [] s h = absurd h
+outputs-by n (r ∷ rs) (w ∷ ws) s h =
+    let xs = variableValues n r w in
+    let l : length xs ≡ openCount r = open-length n (openOf r) w (open-lt n r (s .0)) in
+    ap₂ (λ (p q : List Bool). fillOf r p ++ fillAll rs q) (take-at xs (variablesBy n rs ws) (openCount r) l) (drop-at xs (variablesBy n rs ws) (openCount r) l)
+    ∙ ap₂ (λ (p q : List Bool). p ++ q) (ap (λ (k : ℕ). cond (counted r) (treeValues (shape k) xs) []) (sym l))
+    (outputs-by n rs ws (s .1) (and-right (allowed r w) (pairwise allowed rs ws) h))
+
 module _ (n : ℕ) (a : List Bool) where
-  words-values : (t : List Group) (v o : ℕ) → All (SettledAmong n) t → valuesOf n t (overGroups (wordFrom n a) t v o) ≡ valuesFrom a v (total openCount t)
+  words-values : (t : List Group) (v o : ℕ) → All (SettledAmong n) t → variablesBy n t (overGroups (wordFrom n a) t v o) ≡ valuesFrom a v (total openCount t)
   unfolding wordFrom openCount
   words-values [] v o s = refl
   words-values (r ∷ rs) v o s =
@@ -242,7 +255,7 @@ module _ (n : ℕ) (a : List Bool) where
       ∙ sym (values-append (truth a) v (openCount r) (total openCount rs))
 
   words-of : (t : List Group) (d : List ℕ) (v o : ℕ) → All (SettledAmong n) t → T (pairwise allowed t d)
-      → valuesFrom a v (total openCount t) ≡ valuesOf n t d → overGroups (wordFrom n a) t v o ≡ d
+      → valuesFrom a v (total openCount t) ≡ variablesBy n t d → overGroups (wordFrom n a) t v o ≡ d
   unfolding wordFrom openCount
   words-of [] [] v o s h e = refl
   words-of [] (w ∷ ws) v o s h e = absurd h
@@ -251,8 +264,8 @@ module _ (n : ℕ) (a : List Bool) where
       let k : ℕ = openCount r in
       let q = allowed-holding n r w (s .0) (and-left (allowed r w) (pairwise allowed rs ws) h) in
       let p =
-      append-iff (valuesFrom a v k) (valuesFrom a (v + k) (total openCount rs)) (openValues n (openOf r) w) (valuesOf n rs ws)
-      (values-length (truth a) v k ∙ sym (openValues-length n (openOf r) w (open-lt n r (s .0)))) .0
+      append-iff (valuesFrom a v k) (valuesFrom a (v + k) (total openCount rs)) (openValues n (openOf r) w) (variablesBy n rs ws)
+      (values-length (truth a) v k ∙ sym (open-length n (openOf r) w (open-lt n r (s .0)))) .0
       (sym (values-append (truth a) v k (total openCount rs)) ∙ e) in
       ap₂ (λ (x : ℕ) (xs : List ℕ). x ∷ xs)
       (row-of (truth a) n (r .fixed) (openOf r) v w (fixed-lt n r (s .0)) (open-lt n r (s .0)) (q .1) (open-apart r (s .0 .group)) (q .0) (p .0))
@@ -373,6 +386,17 @@ values-are : (xs : List Bool) (i n : ℕ) → i + n ≤ length xs → map (λ v.
 values-are xs i zero h = refl
 values-are xs i (suc n) h = rw (drop-cons xs i false (omega arith), values-are xs (suc i) n (omega arith))
 
+-- the assignment of a solution has a value for each variable
+pub filled-length : (m : Model) → Settled m → (d : List ℕ) → T (isSolution m d) → length (assignmentFor m d) ≡ variableCount m
+unfolding assignmentFor isSolution variableCount tableVariables
+filled-length m q d hd =
+    let t = tableOf m in
+    let settled = table-settled m q in
+    let hp = and-left (pairwise allowed t d) (every (constraintTrue d) (constraintsOf m)) hd in
+    length-append (variablesBy (m .n) t d) (eachPair (outputValues (m .n)) t d)
+    ∙ ap₂ (λ (x y : ℕ). x + y) (values-total (m .n) t d settled hp)
+    (ap length (sym (outputs-by (m .n) t d settled hp)) ∙ length-fillAll t (variablesBy (m .n) t d))
+
 module _ (m : Model) (q : Settled m) (wide : T (membersSized m)) where
   opens : ℕ
   opens = total openCount (tableOf m)
@@ -455,51 +479,53 @@ module _ (m : Model) (q : Settled m) (wide : T (membersSized m)) where
   unfolding isSatisfying isAssignment
   parts a t = main-iff a (length-is a t) .0 (and-right (eqb (length a) (variableCount m)) (satisfying m a) t)
 
+  -- the assignment of a solution is satisfying, and reads back as it
+  module _ (d : List ℕ) (hd : T (isSolution m d)) where
+    xs : List Bool
+    xs = variablesBy (m .n) (tableOf m) d
+
+    hp : T (pairwise allowed (tableOf m) d)
+    unfolding isSolution
+    hp = and-left (pairwise allowed (tableOf m) d) (every (constraintTrue d) (constraintsOf m)) hd
+
+    whole-is : assignmentFor m d ≡ xs ++ fillAll (tableOf m) xs
+    unfolding xs assignmentFor
+    whole-is = ap (λ (l : List Bool). xs ++ l) (sym (outputs-by (m .n) (tableOf m) d settled hp))
+
+    hx : length xs ≡ opens
+    unfolding opens xs
+    hx = values-total (m .n) (tableOf m) d settled hp
+
+    tk : take opens (assignmentFor m d) ≡ xs
+    tk = ap (take opens) whole-is ∙ take-at xs (fillAll (tableOf m) xs) opens hx
+
+    dr : drop opens (assignmentFor m d) ≡ fillAll (tableOf m) xs
+    dr = ap (drop opens) whole-is ∙ drop-at xs (fillAll (tableOf m) xs) opens hx
+
+    pub filled-groups : groupsBy m (assignmentFor m d) ≡ d
+    unfolding opens xs
+    filled-groups = sets-are (assignmentFor m d) ∙ words-of (m .n) (assignmentFor m d) (tableOf m) d 1 (1 + opens) settled hp (open-part (assignmentFor m d) (filled-length m q d hd) ∙ tk)
+
+    pub filled-satisfying : T (isSatisfying m (assignmentFor m d))
+    unfolding isSatisfying isAssignment
+    filled-satisfying =
+        let a = assignmentFor m d in
+        and-both (eqb (length a) (variableCount m)) (satisfying m a) (subst (λ (k : ℕ). T (eqb (length a) k)) (filled-length m q d hd) (eqb-refl (length a)))
+        (main-iff a (filled-length m q d hd) .1 (dr ∙ sym (ap (fillAll (tableOf m)) tk), subst (λ (x : List ℕ). T (isSolution m x)) (sym filled-groups) hd))
+
   pub one-for-one : OneForOne m
-  unfolding opens isSatisfying isAssignment isSolution variableCount tableVariables
-  one-for-one = record { sound = λ a h. parts a h .1; found = found′; alone = alone′ }
+  unfolding opens
+  one-for-one = record { sound = λ a h. parts a h .1; found = λ d h. (assignmentFor m d, filled-satisfying d h, filled-groups d h); alone = alone′ }
     where
-      found′ : (d : List ℕ) → T (isSolution m d) → (a : List Bool) × T (isSatisfying m a) × (groupsBy m a ≡ d)
-      found′ d hd = (
-        a,
-        and-both (eqb (length a) (variableCount m)) (satisfying m a) (subst (λ (k : ℕ). T (eqb (length a) k)) ha (eqb-refl (length a)))
-            (main-iff a ha .1 (dr ∙ sym (ap (fillAll (tableOf m)) tk), subst (λ (x : List ℕ). T (isSolution m x)) (sym e) hd)),
-        e,
-      )
-        where
-          xs : List Bool
-          xs = valuesOf (m .n) (tableOf m) d
-
-          a : List Bool
-          a = xs ++ fillAll (tableOf m) xs
-
-          hp : T (pairwise allowed (tableOf m) d)
-          hp = and-left (pairwise allowed (tableOf m) d) (every (constraintTrue d) (constraintsOf m)) hd
-
-          hx : length xs ≡ opens
-          hx = values-total (m .n) (tableOf m) d settled hp
-
-          ha : length a ≡ variableCount m
-          ha = length-append xs (fillAll (tableOf m) xs) ∙ ap₂ (λ (x y : ℕ). x + y) hx (length-fillAll (tableOf m) xs)
-
-          tk : take opens a ≡ xs
-          tk = take-at xs (fillAll (tableOf m) xs) opens hx
-
-          dr : drop opens a ≡ fillAll (tableOf m) xs
-          dr = drop-at xs (fillAll (tableOf m) xs) opens hx
-
-          e : groupsBy m a ≡ d
-          e = sets-are a ∙ words-of (m .n) a (tableOf m) d 1 (1 + opens) settled hp (open-part a ha ∙ tk)
-
       alone′ : (a b : List Bool) → T (isSatisfying m a) → T (isSatisfying m b) → groupsBy m a ≡ groupsBy m b → a ≡ b
       alone′ a b h k e = sym (take-append-drop opens a) ∙ ap₂ (λ (x y : List Bool). x ++ y) tk dr ∙ take-append-drop opens b
         where
-          opened : (a : List Bool) → T (isSatisfying m a) → valuesOf (m .n) (tableOf m) (groupsBy m a) ≡ take opens a
+          opened : (a : List Bool) → T (isSatisfying m a) → variablesBy (m .n) (tableOf m) (groupsBy m a) ≡ take opens a
           opened a h =
-              ap (valuesOf (m .n) (tableOf m)) (sets-are a) ∙ words-values (m .n) a (tableOf m) 1 (1 + opens) settled ∙ open-part a (length-is a h)
+              ap (variablesBy (m .n) (tableOf m)) (sets-are a) ∙ words-values (m .n) a (tableOf m) 1 (1 + opens) settled ∙ open-part a (length-is a h)
 
           tk : take opens a ≡ take opens b
-          tk = sym (opened a h) ∙ ap (valuesOf (m .n) (tableOf m)) e ∙ opened b k
+          tk = sym (opened a h) ∙ ap (variablesBy (m .n) (tableOf m)) e ∙ opened b k
 
           dr : drop opens a ≡ drop opens b
           dr = parts a h .0 ∙ ap (fillAll (tableOf m)) tk ∙ sym (parts b k .0)

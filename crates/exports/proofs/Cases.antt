@@ -18,12 +18,14 @@ use Rattle.model.specs.Sheet.{readSheet}
 use Rattle.model.specs.Propagate.{Outcome, contradiction, fixpoint, outcome, refusedPropagation, propagatedAs, propagated}
 use Rattle.model.specs.Text.{writtenBlock, blockBuffer}
 use Rattle.model.specs.Close.{closed}
+use Rattle.model.specs.Fill.{fillRefusal, filledValues}
 use Rattle.model.proofs.Lists.{true-T}
 use Rattle.propagation_laws.proofs.Ranges.{in-range}
 use Rattle.cnf.specs.declared.Run.{Run}
 use Rattle.cnf.specs.Run.{runOf, runBuffer}
+use Rattle.words.specs.Words.{setsFrom}
 use Rattle.packing.specs.Packing.{numbered, writtenNumber, runNumber, noGroups, hasRoom, groupsLaid}
-use Rattle.exports.specs.Draw.{settledSheet, fitted, settleNumber, tableAfter, sheetBlock, drawBlock, drawBuffer, sheetRun, drawBlocks, drawRun, readingOf, closedSheet}
+use Rattle.exports.specs.Draw.{settledSheet, fitted, settleNumber, tableAfter, sheetBlock, drawBlock, drawBuffer, sheetRun, drawBlocks, drawRun, readingOf, closedSheet, drawFill, drawValues}
 
 -- ---- the reader's refusal comes first
 
@@ -100,7 +102,7 @@ module _ (p : Propagated) (table : List ℕ) where
       unfolding fitted tableOf groupsLaid
       laid-table = rw (h, z, long)
 
--- ---- what a block, a run of blocks and closing answer
+-- ---- what a block, a run of blocks, closing and filling answer
 
 module _ (b : List ℕ) (p : Propagated) (e : p ≡ settledSheet b) where
   module _ (h : p .refusal ≡ 0 → ⊥) where
@@ -124,6 +126,14 @@ module _ (b : List ℕ) (p : Propagated) (e : p ≡ settledSheet b) where
     unfolding drawRun
     run-left block buffer = rw (← e, ne-eqb (p .refusal) 0 h)
 
+    pub filling-refused : (groups values : List ℕ) → p .refusal ≡ drawFill b groups values
+    unfolding drawFill
+    filling-refused groups values = rw (← e, ne-eqb (p .refusal) 0 h)
+
+    pub values-left : (groups values : List ℕ) → values ≡ drawValues b groups values
+    unfolding drawValues
+    values-left groups values = rw (← e, ne-eqb (p .refusal) 0 h)
+
     pub closing-refused : (flag : ℕ) (values : List ℕ) → noGroups (p .refusal) ≡ closedSheet b flag values
     unfolding closedSheet
     closing-refused flag values = rw (← e, ne-eqb (p .refusal) 0 h)
@@ -144,6 +154,14 @@ module _ (b : List ℕ) (p : Propagated) (e : p ≡ settledSheet b) where
     pub run-laid : (block : ℕ) (buffer : List ℕ) → runBuffer (p .model) block buffer ≡ drawRun b block buffer
     unfolding drawRun
     run-laid block buffer = rw (← e, z)
+
+    pub filling-judged : (groups values : List ℕ) → fillRefusal (p .model) (setsFrom groups) values ≡ drawFill b groups values
+    unfolding drawFill
+    filling-judged groups values = rw (← e, z)
+
+    pub values-filled : (groups values : List ℕ) → filledValues (p .model) (setsFrom groups) values ≡ drawValues b groups values
+    unfolding drawValues
+    values-filled groups values = rw (← e, z)
 
     pub closing : (flag : ℕ) (values : List ℕ) → closed (p .model) (readingOf flag) values ≡ closedSheet b flag values
     unfolding closedSheet

@@ -17,9 +17,10 @@ use Rattle.model.specs.Text.{writtenBlock, blockBuffer}
 use Rattle.model.specs.SheetText.{writtenSheet}
 use Rattle.model.specs.Assignment.{lineRead}
 use Rattle.model.specs.Close.{closed}
+use Rattle.model.specs.Fill.{fillRefusal, filledValues}
 use Rattle.cnf.specs.declared.Run.{Run}
 use Rattle.cnf.specs.Run.{runOf, runBuffer}
-use Rattle.words.specs.Words.{modelFrom}
+use Rattle.words.specs.Words.{setsFrom, modelFrom}
 use Rattle.packing.specs.Packing.{numbered, writtenNumber, runNumber, lineNumber, groupWords, noGroups, fittedClosing, groupsAfter}
 
 -- ---- reading
@@ -125,3 +126,15 @@ modelClose words flag values room = fittedClosing room (closed (modelFrom words)
 
 unfoldable pub modelGroups : List ℕ → ℕ → List ℕ → List ℕ → List ℕ
 modelGroups words flag values groups = groupsAfter (fittedClosing (length groups) (closed (modelFrom words) (readingOf flag) values)) groups
+
+-- ---- filling on the settled sheet
+
+unfoldable pub drawFill : List ℕ → List ℕ → List ℕ → ℕ
+drawFill sheet groups values =
+    let p = settledSheet sheet in
+    cond (eqb (p .refusal) 0) (fillRefusal (p .model) (setsFrom groups) values) (p .refusal)
+
+unfoldable pub drawValues : List ℕ → List ℕ → List ℕ → List ℕ
+drawValues sheet groups values =
+    let p = settledSheet sheet in
+    cond (eqb (p .refusal) 0) (filledValues (p .model) (setsFrom groups) values) values

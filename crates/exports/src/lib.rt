@@ -6,8 +6,9 @@ ghost use Rattle.model.specs.Limits.{limits};
 ghost use Rattle.model.specs.Assignment.{valuesAfter};
 ghost use Rattle.model.specs.Text.{blockBuffer};
 ghost use Rattle.model.specs.SheetText.{sheetBuffer};
-ghost use Rattle.words.specs.Words.{modelFrom};
-ghost use Rattle.exports.specs.Draw.{drawRead, settledSheet, fitted, settleNumber, tableAfter, drawSettle, drawTable, modelSettle, modelTable, drawBlock, drawBuffer, modelBlock, modelSheet, drawBlocks, drawRun, readingOf, drawLine, closedSheet, drawClose, drawGroups, modelClose, modelGroups};
+ghost use Rattle.model.specs.Fill.{fillRefusal, filledValues};
+ghost use Rattle.words.specs.Words.{setsFrom, modelFrom};
+ghost use Rattle.exports.specs.Draw.{drawRead, settledSheet, fitted, settleNumber, tableAfter, drawSettle, drawTable, modelSettle, modelTable, drawBlock, drawBuffer, modelBlock, modelSheet, drawBlocks, drawRun, readingOf, drawLine, closedSheet, drawClose, drawGroups, modelClose, modelGroups, drawFill, drawValues};
 ghost use Rattle.certificate.specs.declared.Opening.the-variants.{Open};
 ghost use Rattle.certificate.specs.NoDraw.{openingOf};
 ghost use Rattle.exports.specs.Certify.{verdictNumber, Judged};
@@ -189,6 +190,31 @@ pub extern "C" fn draw_close_model(
     };
     let a = solution::close(m, reading, values);
     packing::close_number(a, groups)
+}
+
+// Filling with a word for each group, of which those that are missing are 0: the refusal, or 0.
+#[no_mangle]
+pub extern "C" fn draw_fill(sheet: &[u8], groups: &[u64], values: &mut [u8]) -> u32
+    ensures { λ r. ⌜ r ≡ drawFill (now (sheet .entry)) (now (groups .entry)) (now (values .entry)) ⌝ }
+    ensures { λ r. ⌜ now (values .exit) ≡ drawValues (now (sheet .entry)) (now (groups .entry)) (now (values .entry)) ⌝ }
+{
+    let p = settled(sheet);
+    if p.refusal != 0 {
+        return p.refusal;
+    }
+    let m = p.model;
+    let sets = words::sets_from(groups);
+    filling::fill(m, sets, values)
+}
+
+#[no_mangle]
+pub extern "C" fn draw_fill_model(words: &[u64], groups: &[u64], values: &mut [u8]) -> u32
+    ensures { λ r. ⌜ r ≡ fillRefusal (modelFrom (now (words .entry))) (setsFrom (now (groups .entry))) (now (values .entry)) ⌝ }
+    ensures { λ r. ⌜ now (values .exit) ≡ filledValues (modelFrom (now (words .entry))) (setsFrom (now (groups .entry))) (now (values .entry)) ⌝ }
+{
+    let m = words::model_from(words);
+    let sets = words::sets_from(groups);
+    filling::fill(m, sets, values)
 }
 
 // ---- a certificate

@@ -35,8 +35,8 @@ pub fn word_length(s: &[u8]) -> usize
     i
 }
 
-// The variable that digits name: no leading zero, up to 9 of them.
-fn variable_in(d: &[u8]) -> Digits
+// The number that digits stand for, of a variable or of a draw's group or entrant: no leading zero, up to 9 of them.
+pub fn variable_in(d: &[u8]) -> Digits
     ensures { λ r. ⌜ digitsValue r ≡ variableIn (now (d .entry)) ⌝ }
     ensures { λ r. ⌜ variableRefusal r ≡ ifNone 10 (variableIn (now (d .entry))) ⌝ }
 {

@@ -1,5 +1,5 @@
--- The starred examples A to I of document 01, as request 1 has them, proved together as one table over the definitions; the limits of each code and
--- the published DIMACS samples beside them. Assumes nothing.
+-- The starred examples A to I of document 01, as request 1 has them, proved together as one table over the definitions; the limits of each code,
+-- fillings and the published DIMACS samples beside them. Assumes nothing.
 use mathlib.Core.Path.{_≡_, refl}
 use Prim.Native.Nat.{ℕ, _-_}
 use Prim.Native.Char.{code}
@@ -25,6 +25,7 @@ use Rattle.model.specs.Dimacs.{Formula, readDimacs}
 use Rattle.model.specs.Assignment.{lineRead, valuesAfter}
 use Rattle.model.specs.Close.{closed}
 use Rattle.model.specs.Solution.{isSolution, solutions}
+use Rattle.model.specs.Fill.{fillRefusal, filledValues}
 use Rattle.model.specs.Demand.{freshReading, isCandidate}
 use Rattle.model.specs.Defs.{defs}
 use Rattle.model.proofs.Lists.{and-left, and-right}
@@ -288,6 +289,40 @@ limitTable = equalLimits && withinLimits && bothLimits && lessLimits && eitherLi
 pub limitExamples : T limitTable
 unfolding defs bytes same modelOf settled isRefused limitsAs equalLimits withinLimits bothLimits lessLimits eitherLimits unionOfThreeLimits noRoom limitTable
 limitExamples = tt
+
+-- ---- filling (request 2): the four draws of A, with words past s; what is no draw, an entrant past n included; 30 before 26; five open entrants
+
+fillsAs : Model → List ℕ → ℕ → ℕ → List ℕ → Bool
+fillsAs m d room r values =
+    let before : List ℕ = replicate room 7 in
+    eqb (fillRefusal m d before) r && same (filledValues m d before) values
+
+fourFilled : Bool
+fourFilled =
+    let m = settled sheetA in
+    fillsAs m (1 ∷ 1 ∷ []) 8 0 (1 ∷ 2 ∷ 1 ∷ 2 ∷ 1 ∷ 2 ∷ 1 ∷ 2 ∷ [])
+    && fillsAs m (2 ∷ 2 ∷ []) 8 0 (2 ∷ 1 ∷ 2 ∷ 1 ∷ 1 ∷ 2 ∷ 1 ∷ 2 ∷ [])
+    && fillsAs m (1 ∷ 3 ∷ []) 8 0 (1 ∷ 2 ∷ 1 ∷ 1 ∷ 1 ∷ 2 ∷ 1 ∷ 1 ∷ [])
+    && fillsAs m (2 ∷ 3 ∷ 9 ∷ []) 8 0 (2 ∷ 1 ∷ 1 ∷ 1 ∷ 1 ∷ 2 ∷ 1 ∷ 1 ∷ [])
+
+notFilled : Bool
+notFilled =
+    let m = settled sheetA in
+    fillsAs m (1 ∷ 2 ∷ []) 2 30 (7 ∷ 7 ∷ []) && fillsAs m (1 ∷ 9 ∷ []) 8 30 (replicate 8 7) && fillsAs m (1 ∷ []) 8 30 (replicate 8 7)
+    && fillsAs m (1 ∷ 1 ∷ []) 7 26 (replicate 7 7) && fillsAs (modelOf sheetE) (1 ∷ []) 0 22 []
+
+-- two of five: the halves of two and of three count one each
+fiveFilled : Bool
+fiveFilled =
+    fillsAs (settled "   1   5   1   0\n   2   1   1   4   1   1   1   1   1\n") (18 ∷ []) 17 0
+    (2 ∷ 1 ∷ 2 ∷ 2 ∷ 1 ∷ 1 ∷ 2 ∷ 1 ∷ 2 ∷ 1 ∷ 2 ∷ 2 ∷ 1 ∷ 1 ∷ 2 ∷ 2 ∷ 2 ∷ [])
+
+pub fillTable : Bool
+fillTable = fourFilled && notFilled && fiveFilled
+
+pub fillings : T fillTable
+unfolding defs bytes same modelOf settled sheetA sheetE fillsAs fourFilled notFilled fiveFilled fillTable
+fillings = tt
 
 -- ---- the three published DIMACS samples, as the DIMACS reader reads them
 

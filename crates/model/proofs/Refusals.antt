@@ -26,6 +26,16 @@ module _ (m : Model) where
       go true p false q e = absurd (omega arith)
       go false p y q e = absurd (omega arith)
 
+  -- nor has one whose answer is another
+  pub unsettled-other : (rest x : ℕ) → (20 ≡ x → ⊥) → (22 ≡ x → ⊥) → unsettledOr m rest ≡ x → T (inRange m) × T (isFixpoint m) × (rest ≡ x)
+  unfolding unsettledOr
+  unsettled-other rest x n k e = go (inRange m) refl (isFixpoint m) refl e
+    where
+      go : (a : Bool) → inRange m ≡ a → (b : Bool) → isFixpoint m ≡ b → stop (not a) 20 (stop (not b) 22 rest) ≡ x → T (inRange m) × T (isFixpoint m) × (rest ≡ x)
+      go true p true q e = (true-T (inRange m) p, true-T (isFixpoint m) q, e)
+      go true p false q e = absurd (k e)
+      go false p b q e = absurd (n e)
+
   -- one of them is the answer, whatever the entry's own refusals are
   pub unsettled-first : (unsettledOr m 0 ≡ 0 → ⊥) → (rest : ℕ) → unsettledOr m rest ≡ unsettledOr m 0
   unfolding unsettledOr

@@ -14,5 +14,6 @@ pub mod Dimacs
 pub mod Assignment
 pub mod Close
 pub mod Solution
+pub mod Fill
 pub mod Demand
 pub mod Defs

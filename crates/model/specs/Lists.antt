@@ -30,6 +30,12 @@ abbrev pub each : {A B : Type 0} → (A → List B) → List A → List B
 each f [] = []
 each f (x ∷ xs) = f x ++ each f xs
 
+-- what f makes of two lists, element by element, in one list
+abbrev pub eachPair : {A B C : Type 0} → (A → B → List C) → List A → List B → List C
+eachPair f [] ys = []
+eachPair f (x ∷ xs) [] = []
+eachPair f (x ∷ xs) (y ∷ ys) = f x y ++ eachPair f xs ys
+
 -- the sum of what f makes of each element
 abbrev pub total : {A : Type 0} → (A → ℕ) → List A → ℕ
 total f [] = 0

@@ -49,8 +49,11 @@ pub record Sized (m : Model) : Type 0 where
   pub groups : m .s ≤ length (m .groups)
   pub constraints : m .c ≤ length (m .constraints)
 
+abbrev pub constraintSized : Constraint → Bool
+constraintSized c = leb (limits .members) (length (c .groups))
+
 abbrev pub membersSized : Model → Bool
-membersSized m = every (λ c. leb (limits .members) (length (c .groups))) (constraintsOf m)
+membersSized m = every constraintSized (constraintsOf m)
 
 -- "low ≤ high ≤ n", no entrant past n, fixed within possible
 unfoldable pub groupInRange : ℕ → Group → Bool

@@ -4,12 +4,13 @@ ghost use mathlib.Core.Path.{_≡_};
 ghost use Prim.Native.Nat.{min};
 ghost use mathlib.Core.Bool.{cond};
 ghost use mathlib.Core.Option.{none};
-ghost use lib.Dec.{leb};
+ghost use lib.Dec.{T, leb};
 ghost use lib.ListN.{length};
+ghost use Rattle.model.specs.Lists.{every};
 ghost use Rattle.model.specs.Limits.{limits};
 ghost use Rattle.model.specs.Words.{full};
 ghost use Rattle.model.specs.Sheet.{digitsAfter, shortNumber, digitsValue};
-ghost use Rattle.model.specs.Model.{zeroModel};
+ghost use Rattle.model.specs.Model.{zeroModel, constraintSized};
 
 // "F" and "-F" of document 01: of a member of a constraint, of a group, or of a variable.
 pub enum Literal {
@@ -167,9 +168,9 @@ impl Model {
     }
 }
 
-// The arrays of a model have the lengths of their types.
+// The arrays of a model have the lengths of their types, and so have its constraints' own.
 pub fn whole(groups: [Group; Model::GROUPS], constraints: [Constraint; Model::CONSTRAINTS])
-    ensures { λ r. ⌜ (length groups ≡ limits .groups) × (length constraints ≡ limits .constraints) ⌝ }
+    ensures { λ r. ⌜ (length groups ≡ limits .groups) × (length constraints ≡ limits .constraints) × T (every constraintSized constraints) ⌝ }
 {}
 
 // The entrants 1 to n as a word; as many as a word has fill it, which no shift gives.

@@ -1,7 +1,7 @@
 -- Messages that compute. Assumes nothing.
 use mathlib.Core.Path.{_≡_, refl}
 use Rattle.model.specs.Text.{digits, decimal}
-use Rattle.report.specs.Messages.{bytes, meaningText, refusedAtText, refusedLineText, countsText, reasonText, notCertifiedText}
+use Rattle.report.specs.Messages.{bytes, meaningText, refusedAtText, refusedLineText, countsText, reasonText, notCertifiedText, faultStart, faultEnd, wrongGroupsText}
 
 at-a-line : refusedAtText 9 14 ≡ bytes "refused 9 at line 14\na group stands twice in the line\n"
 unfolding refusedAtText meaningText decimal digits
@@ -26,3 +26,11 @@ of-a-certificate = refl
 before-a-certificate : notCertifiedText 11 0 ≡ bytes "not certified: there is no room for a block of the listing\n"
 unfolding notCertifiedText reasonText
 before-a-certificate = refl
+
+of-groups : wrongGroupsText 4 6 5 ≡ bytes "line 6: group 5 is missing\n"
+unfolding wrongGroupsText faultStart faultEnd decimal digits
+of-groups = refl
+
+of-an-entrant : wrongGroupsText 6 2 7 ≡ bytes "line 2: entrant 7 stands twice in the line\n"
+unfolding wrongGroupsText faultStart faultEnd decimal digits
+of-an-entrant = refl

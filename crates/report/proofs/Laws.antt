@@ -17,7 +17,7 @@ use Rattle.text.specs.Put.{placed, placeAfter}
 use Rattle.text.proofs.Writes.{nothing}
 use Rattle.report.specs.declared.Message.{Message}
 use Rattle.report.specs.declared.Tried.{Tried}
-use Rattle.report.specs.Messages.{bytes, zeros, message, Counted, added, meanings, textAt, meaningText, reasons, reasonText, closedText, unsaidText, triedText, addedUnsaid, addedResult, addedTried}
+use Rattle.report.specs.Messages.{bytes, zeros, message, Counted, added, meanings, textAt, meaningText, reasons, reasonText, faultStarts, faultStart, faultEnds, faultEnd, closedText, unsaidText, triedText, addedUnsaid, addedResult, addedTried}
 
 -- a text of no more bytes than a message has
 message-length : (t : List ℕ) → length t ≤ 160 → length (t ++ drop (length t) zeros) ≡ 160
@@ -57,6 +57,14 @@ reason-length : (reason : ℕ) → length (reasonText reason) ≤ 60
 unfolding reasonText
 reason-length reason = table-length 60 reasons reason tt
 
+start-length : (fault : ℕ) → length (faultStart fault) ≤ 23
+unfolding faultStart
+start-length fault = table-length 23 faultStarts fault tt
+
+end-length : (fault : ℕ) → length (faultEnd fault) ≤ 27
+unfolding faultEnd
+end-length fault = table-length 27 faultEnds fault tt
+
 -- ---- a message that is built text by text: m says t, of up to k bytes
 
 pub record Says (m : Message) (t : List ℕ) (k : ℕ) : Type 0 where
@@ -83,6 +91,12 @@ add-meaning x = more (meaningText x) 95 (meaning-length x)
 
 pub add-reason : (x : ℕ) {m r : Message} {t : List ℕ} {k : ℕ} → r ≡ added m (reasonText x) → Says m t k → Says r (t ++ reasonText x) (k + 60)
 add-reason x = more (reasonText x) 60 (reason-length x)
+
+pub add-fault-start : (x : ℕ) {m r : Message} {t : List ℕ} {k : ℕ} → r ≡ added m (faultStart x) → Says m t k → Says r (t ++ faultStart x) (k + 23)
+add-fault-start x = more (faultStart x) 23 (start-length x)
+
+pub add-fault-end : (x : ℕ) {m r : Message} {t : List ℕ} {k : ℕ} → r ≡ added m (faultEnd x) → Says m t k → Says r (t ++ faultEnd x) (k + 27)
+add-fault-end x = more (faultEnd x) 27 (end-length x)
 
 pub said : {m : Message} {t : List ℕ} {k : ℕ} → k ≤ 160 → Says m t k → (m ≡ message t) × Counted m
 unfolding message

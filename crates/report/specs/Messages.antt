@@ -43,6 +43,7 @@ meanings =
     ∷ (27, "the solver's answer is not complete: no closing 0, or a variable is not said\n")
     ∷ (28, "the solver's answer breaks a clause\n")
     ∷ (29, "a constraint has a clause without literals\n")
+    ∷ (30, "the groups are not a draw of the sheet\n")
     ∷ []
 
 -- the text that stands at a number; nothing where none does
@@ -133,6 +134,32 @@ notCertifiedText reason line =
 
 unfoldable pub noDrawText : Bool → List ℕ
 noDrawText certified = cond certified (bytes "no draw: certified\n") (bytes "no draw: settled out\n")
+
+-- ---- of a draw's groups: what is wrong with the line, by the numbers of group_lines, and the number of the group or entrant
+
+abbrev pub faultStarts : List (ℕ × String)
+faultStarts = (2, "the sheet has no group ") ∷ (3, "group ") ∷ (4, "group ") ∷ (5, "entrant ") ∷ (6, "entrant ") ∷ []
+
+abbrev pub faultEnds : List (ℕ × String)
+faultEnds =
+    (2, "\n")
+    ∷ (3, " stands twice\n")
+    ∷ (4, " is missing\n")
+    ∷ (5, " is not one of the sheet's\n")
+    ∷ (6, " stands twice in the line\n")
+    ∷ []
+
+unfoldable pub faultStart : ℕ → List ℕ
+faultStart fault = textAt faultStarts fault
+
+unfoldable pub faultEnd : ℕ → List ℕ
+faultEnd fault = textAt faultEnds fault
+
+unfoldable pub wrongGroupsText : ℕ → ℕ → ℕ → List ℕ
+wrongGroupsText fault line number =
+    cond (eqb fault 1)
+    (bytes "line " ++ decimal line ++ bytes ": not a line as `1: 3 7 9`: the group's number, a colon, then each entrant after one space\n")
+    (bytes "line " ++ decimal line ++ bytes ": " ++ faultStart fault ++ decimal number ++ faultEnd fault)
 
 -- ---- a message by value: the text over zeros
 

@@ -2,7 +2,7 @@
 ghost use mathlib.Core.Path.{_≡_};
 ghost use mathlib.Core.List.{[]};
 ghost use Rattle.model.specs.Text.{decimal};
-ghost use Rattle.report.specs.Messages.{meaningText, refusedText, refusedAtText, refusedLineText, numberText, countsText, passesText, Counted, closedText, endingText, blockLine, changedText, reasonText, notCertifiedText, noDrawText, message, added, addedUnsaid, addedResult, addedTried};
+ghost use Rattle.report.specs.Messages.{meaningText, refusedText, refusedAtText, refusedLineText, numberText, countsText, passesText, Counted, closedText, endingText, blockLine, changedText, reasonText, notCertifiedText, noDrawText, faultStart, faultEnd, wrongGroupsText, message, added, addedUnsaid, addedResult, addedTried};
 
 // The most bytes of a message.
 const MOST: usize = 160;
@@ -90,6 +90,7 @@ fn add_meaning(m: Message, refusal: u32) -> Message
         ),
         28 => add(m, b"the solver's answer breaks a clause\n"),
         29 => add(m, b"a constraint has a clause without literals\n"),
+        30 => add(m, b"the groups are not a draw of the sheet\n"),
         _ => m,
     }
 }
@@ -298,4 +299,50 @@ pub fn no_draw(certified: bool) -> Message
         return add(empty(), b"no draw: certified\n");
     }
     add(empty(), b"no draw: settled out\n")
+}
+
+// What is wrong with a line of groups: the words before the number of the group or entrant, and those after it.
+fn add_fault_start(m: Message, fault: u32) -> Message
+    ensures { λ r. ⌜ r ≡ added m (faultStart fault) ⌝ }
+{
+    match fault {
+        2 => add(m, b"the sheet has no group "),
+        3 => add(m, b"group "),
+        4 => add(m, b"group "),
+        5 => add(m, b"entrant "),
+        6 => add(m, b"entrant "),
+        _ => m,
+    }
+}
+
+fn add_fault_end(m: Message, fault: u32) -> Message
+    ensures { λ r. ⌜ r ≡ added m (faultEnd fault) ⌝ }
+{
+    match fault {
+        2 => add(m, b"\n"),
+        3 => add(m, b" stands twice\n"),
+        4 => add(m, b" is missing\n"),
+        5 => add(m, b" is not one of the sheet's\n"),
+        6 => add(m, b" stands twice in the line\n"),
+        _ => m,
+    }
+}
+
+// `line L: ` and what is wrong with it, of the lines of a draw's groups.
+pub fn wrong_groups(fault: u32, line: u32, number: u32) -> Message
+    ensures { λ r. ⌜ r ≡ message (wrongGroupsText fault line number) ⌝ }
+    ensures { λ r. ⌜ Counted r ⌝ }
+{
+    let a = add(empty(), b"line ");
+    let b = add_number(a, line);
+    if fault == 1 {
+        return add(
+            b,
+            b": not a line as `1: 3 7 9`: the group's number, a colon, then each entrant after one space\n",
+        );
+    }
+    let c = add(b, b": ");
+    let d = add_fault_start(c, fault);
+    let e = add_number(d, number);
+    add_fault_end(e, fault)
 }

@@ -15,7 +15,7 @@ use Rattle.model.specs.declared.Model.{Model}
 use Rattle.model.specs.Lists.{stop, between}
 use Rattle.model.specs.Limits.{limits}
 use Rattle.model.specs.Model.{zeroModel, codeInRange}
-use Rattle.model.specs.Sheet.{linesOf, valueAt, formRefusal, headRefusal, withHead, groupFrom, withGroup, countFrom, groupCount, constraintFrom, constraintRefusal, withConstraint, lineRefusal, withLine, refusedSheet, afterLast, readLines}
+use Rattle.model.specs.Sheet.{onFirst, linesOf, valueAt, formRefusal, headRefusal, withHead, groupFrom, withGroup, countFrom, groupCount, constraintFrom, constraintRefusal, withConstraint, lineRefusal, withLine, refusedSheet, afterLast, readLines}
 use Rattle.model.proofs.Lists.{between-le, true-T}
 use Rattle.model.proofs.Codes.{member-bound}
 use Rattle.sheet.specs.Line.{lineLength}
@@ -44,25 +44,29 @@ rest-ends l i h e = rw (sym (length-drop i l)) (line-ends (drop i l) (rw (length
         let n : i + (length l - i - 1) ≡ length l - 1 = omega arith in
         rw (length-drop i l, getD-drop i l (length l - i - 1) 0, n)
 
-pub lines-next : (l : List ℕ) → lineLength l < length l → linesOf l ≡ take (lineLength l) l ∷ linesOf (drop (lineLength l + 1) l)
+-- the line and the lines after it; the last may lack its byte 10
+pub lines-next : (l : List ℕ) → 0 < length l → linesOf l ≡ take (lineLength l) l ∷ linesOf (drop (lineLength l + 1) l)
 lines-next [] h = absurd (omega arith)
-lines-next (b ∷ bs) h = go (eqb b 10) refl (lines-next bs)
+lines-next (b ∷ []) h = go (eqb b 10)
   where
-    go : (t : Bool) → eqb b 10 ≡ t → (lineLength bs < length bs → linesOf bs ≡ take (lineLength bs) bs ∷ linesOf (drop (lineLength bs + 1) bs))
-        → linesOf (b ∷ bs) ≡ take (lineLength (b ∷ bs)) (b ∷ bs) ∷ linesOf (drop (lineLength (b ∷ bs) + 1) (b ∷ bs))
-    go true e ih = rw e
-    go false e ih =
-        let k : lineLength bs < length bs = short e in
-        rw (e, ih k, add-one (lineLength bs), add-one (suc (lineLength bs)))
-      where
-        short : eqb b 10 ≡ false → lineLength bs < length bs
-        short e = let h′ : cond (eqb b 10) 0 (suc (lineLength bs)) < suc (length bs) = h in let h″ = rw e at h′ in omega arith
+    go : (t : Bool) → cond t ([] ∷ []) ((b ∷ []) ∷ []) ≡ take (cond t 0 1) (b ∷ []) ∷ linesOf (drop (cond t 0 1 + 1) (b ∷ []))
+    go true = refl
+    go false = refl
+lines-next (b ∷ c ∷ bs) h = go (eqb b 10) (lines-next (c ∷ bs) (omega arith))
+  where
+    k : ℕ
+    k = lineLength (c ∷ bs)
 
-pub rest-next : (l : List ℕ) (i : ℕ) → lineLength (drop i l) < length l - i
+    go : (t : Bool) → linesOf (c ∷ bs) ≡ take k (c ∷ bs) ∷ linesOf (drop (k + 1) (c ∷ bs))
+        → cond t ([] ∷ linesOf (c ∷ bs)) (onFirst b (linesOf (c ∷ bs))) ≡ take (cond t 0 (suc k)) (b ∷ c ∷ bs) ∷ linesOf (drop (cond t 0 (suc k) + 1) (b ∷ c ∷ bs))
+    go true ih = refl
+    go false ih = rw (ih, add-one k, add-one (suc k))
+
+pub rest-next : (l : List ℕ) (i : ℕ) → i < length l
     → linesOf (drop i l) ≡ take (lineLength (drop i l)) (drop i l) ∷ linesOf (drop (i + lineLength (drop i l) + 1) l)
 rest-next l i h =
     let n : i + (lineLength (drop i l) + 1) ≡ i + lineLength (drop i l) + 1 = omega arith in
-    lines-next (drop i l) (rw (length-drop i l) h)
+    lines-next (drop i l) (rw (length-drop i l) (omega arith))
     ∙ rw (drop-drop (lineLength (drop i l) + 1) i l, n)
 
 -- ---- reading on
@@ -161,7 +165,7 @@ module _ (sheet : List ℕ) (m : Model) (done at : ℕ) (h : Halfway sheet m don
   line = take (lineLength (drop at sheet)) (drop at sheet)
 
   here : readLines (linesOf sheet) 0 zeroModel ≡ readLines (line ∷ linesOf (drop (at + lineLength (drop at sheet) + 1) sheet)) done m
-  here = h .rest ∙ ap (λ (ls : List (List ℕ)). readLines ls done m) (rest-next sheet at (rest-ends sheet at inside ends))
+  here = h .rest ∙ ap (λ (ls : List (List ℕ)). readLines ls done m) (rest-next sheet at inside)
 
   pub stops-here : (lineRefusal (m .n) (m .s) (m .c) done line ≡ 0 → ⊥)
       → readLines (linesOf sheet) 0 zeroModel ≡ refusedSheet (lineRefusal (m .n) (m .s) (m .c) done line) (done + 1)

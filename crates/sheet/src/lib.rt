@@ -301,7 +301,7 @@ fn line_refusal(n: u32, s: u32, c: u32, done: u32, line: &[u8]) -> u32
 }
 
 // The length of the first line.
-fn line_length(s: &[u8]) -> usize
+pub fn line_length(s: &[u8]) -> usize
     ensures { λ r. ⌜ r ≡ lineLength (now (s .entry)) ⌝ }
 {
     let mut i: usize = 0;

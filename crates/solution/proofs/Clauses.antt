@@ -1,18 +1,15 @@
 -- The clauses of the listing hold exactly when each group's and each constraint's test does. Assumes nothing.
 use mathlib.Core.Path.{_≡_, refl, sym, ap, ap₂, _∙_, subst}
-use mathlib.Core.Bool.{Bool, true, false, cond, not, _&&_, _||_}
-use mathlib.Core.List.{List, [], _∷_, _++_, map}
+use mathlib.Core.Bool.{Bool, true, false, cond, not, _&&_}
+use mathlib.Core.List.{List, [], _++_, map}
 use Prim.Native.Nat.{ℕ, _+_, _-_, _≤_, _<_}
 use native.Mathlib.Omega.{arith}
-use lib.Bits.{bitOr}
 use lib.Dec.{T, leb, le→leb}
 use lib.ListN.{getD, replicate, List·getD-append}
-use Rattle.model.specs.declared.Literal.{Literal}
-use Rattle.model.specs.declared.Literal.the-variants.{Pos, Neg}
 use Rattle.model.specs.declared.Group.{Group}
 use Rattle.model.specs.declared.Constraint.{Constraint}
 use Rattle.model.specs.declared.Model.{Model}
-use Rattle.model.specs.Lists.{every, any, each, range, between}
+use Rattle.model.specs.Lists.{each, range, between}
 use Rattle.model.specs.Limits.{limits}
 use Rattle.model.specs.Words.{full, size, has}
 use Rattle.model.specs.Clauses.{memberClauses}
@@ -22,19 +19,20 @@ use Rattle.model.specs.Totalizer.{shape, treeClauses, totalizerClauses}
 use Rattle.model.specs.Cnf.{openOf, openCount, atLeast, atMost, counted, firstVariable, variableOf, groupClauses, membership, constraintClauses}
 use Rattle.model.specs.Solution.{setOf}
 use Rattle.model.specs.Close.{truth, termTrue, clauseTrue, satisfying, groupBy, groupsBy, closedGroups}
-use Rattle.model.proofs.Words.{has-zero, has-or, has-less, has-where, one-has, bit-full, full-lt, inside-words, word-ext}
-use Rattle.model.proofs.Lists.{T-ext, T-true, and-left, and-right, and-both, between-le, or-assoc, or-false, every-append, every-each, every-ext, every-range-ext, every-all-ext, every-all, all-imp, all-place, values-make, values-length, getD-map-range}
+use Rattle.model.specs.Fill.{count}
+use Rattle.model.proofs.Words.{has-where, word-ext}
+use Rattle.model.proofs.Lists.{T-ext, T-true, and-left, and-right, and-both, between-le, every-append, every-each, every-range-ext, every-all-ext, every-all, all-imp, all-place, values-make, values-length, getD-map-range}
 use Rattle.encoding_laws.proofs.Truth.{allTrue}
-use Rattle.encoding_laws.proofs.Tree.{count, count-le, valuesFrom, tree-iff}
+use Rattle.encoding_laws.proofs.Tree.{count-le, valuesFrom, tree-iff}
 use Rattle.encoding_laws.proofs.Totalizer.{totalizer-iff}
 use Rattle.encoding_laws.proofs.Groups.{table-length, clauses-parts}
 use Rattle.model.proofs.Codes.{by-entrant}
 use Rattle.propagation_laws.proofs.Ranges.{in-range, constraint-code, member-below}
-use Rattle.propagation_laws.proofs.Meaning.{literalFor, clausesFor}
+use Rattle.propagation_laws.proofs.Meaning.{clausesFor}
 use Rattle.encoding_laws.proofs.Fixpoint.{SettledAmong, table-settled}
 use Rattle.encoding_laws.proofs.Row.{rowWord, row-size}
 use Rattle.encoding_laws.proofs.Whole.{OpenLimits, limits-of, counted-pos, uncounted, open-apart, open-lt, fixed-lt, member-true, constraint-entrants}
-use Rattle.constraint_clauses.specs.Holds.{literalWord, clauseWord, clauseHolds}
+use Rattle.constraint_clauses.proofs.Entrants.{clauses-are}
 use Rattle.solution.specs.Holds.{inGroup, wordOf, wordAt, tableWords, groupHolds, groupHoldsAt, constraintHolds, clausesHold}
 
 -- ---- a group that is at its fixpoint
@@ -121,55 +119,6 @@ module _ (m : Model) (a : List Bool) where
       ∙ has-where (λ e. termTrue a (membership (tableOf m) e (1 + (g - 1)))) (m .n) e l
       ∙ ap (termTrue a) (same-group g e)
 
--- ---- a clause, for all entrants at once
-
-every-and : {A : Type 0} (p q : A → Bool) (xs : List A) → (every p xs && every q xs) ≡ every (λ x. p x && q x) xs
-every-and p q [] = refl
-every-and p q (x ∷ xs) = shuffle (p x) (q x) (every p xs) (every q xs) ∙ ap (λ b. p x && q x && b) (every-and p q xs)
-  where
-    shuffle : (a b c d : Bool) → (a && c && (b && d)) ≡ (a && b && (c && d))
-    shuffle true true c d = refl
-    shuffle true false true d = refl
-    shuffle true false false d = refl
-    shuffle false b c d = refl
-
-every-true : {A : Type 0} (xs : List A) → true ≡ every (λ x. true) xs
-every-true [] = refl
-every-true (x ∷ xs) = every-true xs
-
-every-swap : {A B : Type 0} (p : A → B → Bool) (xs : List A) (ys : List B) → every (λ x. every (p x) ys) xs ≡ every (λ y. every (λ x. p x y) xs) ys
-every-swap p [] ys = every-true ys
-every-swap p (x ∷ xs) ys = ap (λ b. every (p x) ys && b) (every-swap p xs ys) ∙ every-and (p x) (λ y. every (λ x. p x y) xs) ys
-
-module _ (n : ℕ) (d ids : List ℕ) where
-  full-has : (e : ℕ) → e < n → has (full n) e ≡ true
-  full-has e h = one-has (full n) e (bit-full n e h)
-
-  -- whether member i has entrant e
-  abbrev bits : ℕ → ℕ → Bool
-  bits e i = has (setOf d (getD ids i 0)) e
-
-  literal-has : (e : ℕ) → e < n → (l : Literal) → has (literalWord d ids (full n) l) e ≡ literalFor (bits e) l
-  unfolding literalFor
-  literal-has e h (Pos i) = refl
-  literal-has e h (Neg i) = has-less (full n) (setOf d (getD ids i 0)) e ∙ ap (λ b. b && not (bits e i)) (full-has e h)
-
-  clause-has : (e : ℕ) → e < n → (x : ℕ) (ls : List Literal) → has (clauseWord d ids (full n) x ls) e ≡ (has x e || any (literalFor (bits e)) ls)
-  clause-has e h x [] = sym (or-false (has x e))
-  clause-has e h x (l ∷ ls) =
-      clause-has e h (bitOr x (literalWord d ids (full n) l)) ls
-      ∙ ap (λ b. b || any (literalFor (bits e)) ls) (has-or x (literalWord d ids (full n) l) e ∙ ap (λ b. has x e || b) (literal-has e h l))
-      ∙ or-assoc (has x e) (literalFor (bits e) l) (any (literalFor (bits e)) ls)
-
-  clause-is : (ls : List Literal) → clauseHolds d ids (full n) ls ≡ every (λ e. any (literalFor (bits e)) ls) (range 0 n)
-  unfolding clauseHolds
-  clause-is ls =
-      let w = clauseWord d ids (full n) 0 ls in
-      inside-words n (full n) w (full-lt n)
-      ∙ every-range-ext (λ e. not (has (full n) e) || has w e) (λ e. any (literalFor (bits e)) ls) 0 n
-      (λ e _ h. let k : e < n = omega arith in
-      ap (λ b. not b || has w e) (full-has e k) ∙ clause-has e k 0 ls ∙ ap (λ b. b || any (literalFor (bits e)) ls) (has-zero e))
-
 -- ---- a constraint
 
 module _ (m : Model) (a : List Bool) (some : 1 ≤ m .s) where
@@ -181,9 +130,7 @@ module _ (m : Model) (a : List Bool) (some : 1 ≤ m .s) where
       let d = closedGroups m a in
       constraint-entrants m a c d (by-entrant (c .code) (c .count) (constraint-code (m .s) c t))
       (λ i e l h. set-has m a (getD (c .groups) i 0) e some (member-below (m .s) c t i l) h)
-      ∙ every-swap (λ e ls. any (literalFor (bits (m .n) d (c .groups) e)) ls) (range 0 (m .n)) cs
-      ∙ sym (every-ext (clauseHolds d (c .groups) (full (m .n))) (λ ls. every (λ e. any (literalFor (bits (m .n) d (c .groups) e)) ls) (range 0 (m .n)))
-      (clause-is (m .n) d (c .groups)) cs)
+      ∙ sym (clauses-are (m .n) d (c .groups) cs)
 
 -- ---- the listing
 

@@ -9,10 +9,11 @@ use lib.Dec.{T, leb, ltb}
 use Rattle.model.specs.Lists.{total, range}
 use Rattle.model.specs.Totalizer.{Shape, node, shape, leaves, outputs, treeClauses, treeOutputCount}
 use Rattle.model.specs.Close.{truth}
+use Rattle.model.specs.Fill.{count}
 use Rattle.model.proofs.Lists.{T-ext, beq-refl, beq-eq, every-range, range-every}
 use Rattle.encoding_laws.proofs.Truth.{allTrue, T-and}
 use Rattle.encoding_laws.proofs.Node.{Unary}
-use Rattle.encoding_laws.proofs.Tree.{count, valuesFrom, trues, trues-add, parts, tree-iff}
+use Rattle.encoding_laws.proofs.Tree.{valuesFrom, trues, trues-add, parts, tree-iff}
 use Rattle.encoding_laws.proofs.Totalizer.{leaves-shape, shape-one, shape-step}
 use Rattle.encoding_laws.proofs.Counts.{outputs-count, output-count-step}
 use Rattle.model.specs.Limits.{limits}

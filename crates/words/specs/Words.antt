@@ -29,6 +29,10 @@ constraintFrom words i =
     let at = 3 + 4 * limits .groups + (2 + limits .members) * i in
     record { code = numberAt words at; count = numberAt words (at + 1); groups = membersFrom words (at + 2) }
 
+-- a word for each group
+unfoldable pub setsFrom : List ℕ → List ℕ
+setsFrom words = map (wordAt words) (range 0 (limits .groups))
+
 unfoldable pub modelFrom : List ℕ → Model
 modelFrom words = record {
   n = numberAt words 0;

@@ -1,10 +1,10 @@
-// A model from words, as a caller outside hands it over: in range or not, so that it can be refused.
+// A model, and a set for each group, from words, as a caller outside hands them over: in range or not, so that they can be refused.
 ghost use mathlib.Core.Path.{_≡_};
 ghost use mathlib.Core.List.{map};
 ghost use Prim.Native.Nat.{_≤_, _<_};
 ghost use Rattle.model.specs.Lists.{range};
 ghost use Rattle.model.specs.Limits.{limits};
-ghost use Rattle.words.specs.Words.{wordAt, numberAt, groupFrom, membersFrom, constraintFrom, modelFrom};
+ghost use Rattle.words.specs.Words.{wordAt, numberAt, groupFrom, membersFrom, constraintFrom, setsFrom, modelFrom};
 use model::Constraint;
 use model::Group;
 use model::Model;
@@ -99,6 +99,19 @@ fn constraints_from(words: &[u64]) -> [Constraint; Model::CONSTRAINTS]
         i += 1;
     }
     constraints
+}
+
+// A word for each group; those past the last are not looked at.
+pub fn sets_from(words: &[u64]) -> [u64; Model::GROUPS]
+    ensures { λ r. ⌜ r ≡ setsFrom (now (words .entry)) ⌝ }
+{
+    let mut sets = [0u64; Model::GROUPS];
+    let mut i: usize = 0;
+    while i < Model::GROUPS {
+        sets[i] = word_at(words, i);
+        i += 1;
+    }
+    sets
 }
 
 // A model out of range, too, so that a caller can have it refused.

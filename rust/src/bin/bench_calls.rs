@@ -1,4 +1,4 @@
-//! `bench_calls TITLE SHEET ANSWER RUNS`: the calls of the static library beside this crate's, in one process; prints rows of a table in microseconds.
+//! `bench_calls TITLE SHEET ANSWER RUNS`: the calls of the static library beside this crate's, in one process; prints rows of a table in microseconds, the last a ratio.
 use counterpart::compare::calls::{settled, Calls, Counterpart};
 use counterpart::encode::Encoding;
 use std::hint::black_box;
@@ -10,11 +10,14 @@ struct Input {
     variables: usize,
     /// The marks that the answer says.
     marks: Vec<u8>,
+    /// The groups that closing gives for them.
+    groups: [u64; 256],
 }
 
 type Work = fn(&dyn Calls, &Input);
 
-const STEPS: [(&str, Work); 4] = [("read", read), ("read and settle", settle), ("solver lines", lines), ("read, settle and close", close)];
+const STEPS: [(&str, Work); 5] =
+    [("read", read), ("read and settle", settle), ("solver lines", lines), ("read, settle and close", close), ("read, settle and fill", fill)];
 
 fn read(calls: &dyn Calls, input: &Input) {
     black_box(calls.read(&input.sheet));
@@ -30,6 +33,10 @@ fn lines(calls: &dyn Calls, input: &Input) {
 
 fn close(calls: &dyn Calls, input: &Input) {
     assert_eq!(calls.close(&input.sheet, 1, &input.marks, &mut [0; 256]), 0);
+}
+
+fn fill(calls: &dyn Calls, input: &Input) {
+    assert_eq!(calls.fill(&input.sheet, &input.groups, &mut vec![0; input.variables]), 0);
 }
 
 /// The marks after all lines of the answer.
@@ -74,14 +81,19 @@ fn main() {
     let sheet = std::fs::read(sheet).expect("the sheet");
     let answer = std::fs::read(answer).expect("the answer");
     let variables = Encoding::of(&settled(&sheet).expect("a sheet that settles")).variables;
-    let mut input = Input { sheet, answer, variables, marks: Vec::new() };
+    let mut input = Input { sheet, answer, variables, marks: Vec::new(), groups: [0; 256] };
     input.marks = marks(&Counterpart, &input);
-    for (step, work) in STEPS {
-        let Some(other) = other() else {
-            println!("| {step} | {title} | not built | | |");
-            continue;
-        };
-        let [proved, rust] = measure(work, [other, &Counterpart], &input, runs.parse().expect("a number of runs"));
+    assert_eq!(Counterpart.close(&input.sheet, 1, &input.marks, &mut input.groups), 0);
+    let Some(other) = other() else {
+        STEPS.iter().for_each(|(step, _)| println!("| {step} | {title} | not built | | |"));
+        return;
+    };
+    let runs = runs.parse().expect("a number of runs");
+    let times = STEPS.map(|(step, work)| {
+        let [proved, rust] = measure(work, [other, &Counterpart], &input, runs);
         println!("| {step} | {title} | {proved:.0} | {rust:.0} | {:.2} |", proved / rust);
-    }
+        [proved, rust]
+    });
+    let [.., close, fill] = times;
+    println!("| fill over close | {title} | {:.2} | {:.2} | |", fill[0] / close[0], fill[1] / close[1]);
 }

@@ -1,36 +1,5 @@
 //! Solver lines and marks for the comparison: whole answers, pieces of them, and lines that are wrong.
 use super::random::Random;
-use crate::encode::Encoding;
-
-/// The satisfying assignment of a draw, counters included, as marks.
-pub fn fill(encoding: &Encoding, draw: &[u64]) -> Vec<u8> {
-    let mut marks = vec![2; encoding.variables];
-    let model = encoding.settled.model();
-    for (index, group) in model.groups.iter().enumerate() {
-        let open: Vec<u32> = (0..model.entrants).filter(|e| group.open() >> e & 1 == 1).collect();
-        for &entrant in &open {
-            if draw[index] >> entrant & 1 == 1 {
-                marks[encoding.variable(index, entrant) as usize - 1] = 1;
-            }
-        }
-        if let Some((mut next, size)) = encoding.counter_start(index) {
-            fill_node(encoding.variable(index, open[0]) as usize, size as usize, &mut next, &mut marks);
-        }
-    }
-    marks
-}
-
-/// Marks the outputs of a tree and gives the number of its true leaves.
-fn fill_node(leaf: usize, size: usize, next: &mut i32, marks: &mut [u8]) -> usize {
-    if size < 2 {
-        return (0..size).filter(|at| marks[leaf + at - 1] == 1).count();
-    }
-    let many = fill_node(leaf, size / 2, next, marks) + fill_node(leaf + size / 2, size - size / 2, next, marks);
-    let first = *next as usize - 1;
-    *next += size as i32;
-    marks[first..first + many].fill(1);
-    many
-}
 
 /// Lent marks as a caller may hand them over: unsaid, of any bytes, now and then some said already.
 pub fn fresh(random: &mut Random, length: usize) -> Vec<u8> {
@@ -153,17 +122,10 @@ mod tests {
     use super::super::{calls::settled, sheets};
     use super::*;
     use crate::close::close;
+    use crate::encode::Encoding;
+    use crate::fill::{fill, is_draw};
     use crate::model::Model;
     use crate::sheet::read;
-
-    /// Whether groups are a draw of the sheet, by the paper's sentence alone.
-    fn is_draw(model: &Model, sets: &[u64]) -> bool {
-        let fits = |(group, &set): (&crate::model::Group, &u64)| {
-            let many = set.count_ones();
-            group.fixed & !set == 0 && set & !group.possible == 0 && group.low <= many && many <= group.high
-        };
-        model.groups.iter().zip(sets).all(fits) && model.constraints.iter().all(|line| sheets::is_true(line, sets))
-    }
 
     /// The groups that a word spells, n bits each.
     fn sets(model: &Model, word: u64) -> Vec<u64> {
@@ -189,7 +151,9 @@ mod tests {
             };
             let encoding = Encoding::of(&settled);
             for draw in &draws {
-                assert_eq!(close(&encoding, true, &fill(&encoding, draw)).as_ref(), Ok(draw));
+                let mut marks = vec![0; encoding.variables];
+                assert_eq!(fill(&encoding, draw, &mut marks), Ok(()));
+                assert_eq!(close(&encoding, true, &marks).as_ref(), Ok(draw));
                 drawn += 1;
             }
             if encoding.variables <= 12 {

@@ -6,7 +6,7 @@ use crate::refusal::{CONTRADICTION, SHORT_BUFFER};
 use crate::settle::{settle, Settled};
 use crate::sheet::{read, write};
 use crate::words::from_words;
-use crate::{answer, close, listing};
+use crate::{answer, close, fill, listing};
 
 /// What answers the calls: the proved code, this crate, or a broken copy in a test.
 pub trait Calls {
@@ -22,10 +22,13 @@ pub trait Calls {
     fn line(&self, closed: u32, line: &[u8], marks: &mut [u8]) -> u32;
     /// the refusal; the table gets 256 groups, and 24 is a table without room for them
     fn close(&self, sheet: &[u8], closed: u32, marks: &[u8], groups: &mut [u64]) -> u32;
-    /// settling, a block and closing, of a model as words in place of a settled sheet
+    /// the refusal; a missing word of the groups is 0
+    fn fill(&self, sheet: &[u8], groups: &[u64], marks: &mut [u8]) -> u32;
+    /// settling, a block, closing and filling, of a model as words in place of a settled sheet
     fn settle_model(&self, words: &[u64], table: &mut [u64]) -> u64;
     fn block_model(&self, words: &[u64], block: u32, buffer: &mut [u8]) -> u64;
     fn close_model(&self, words: &[u64], closed: u32, marks: &[u8], groups: &mut [u64]) -> u32;
+    fn fill_model(&self, words: &[u64], groups: &[u64], marks: &mut [u8]) -> u32;
     /// the sheet of a model as words: refusal * 2^32 + length
     fn write_model(&self, words: &[u64], buffer: &mut [u8]) -> u64;
     /// a certificate of a sheet: 0 not certified, + 4 * reason + 65536 * line; 1 sheet refused, + 4 * refusal + 65536 * line; 2 settled out; 3 certified
@@ -84,6 +87,10 @@ fn close_number(settled: Result<Settled, u32>, closed: u32, marks: &[u8], groups
     Ok(())
 }
 
+fn fill_number(settled: Result<Settled, u32>, groups: &[u64], marks: &mut [u8]) -> u32 {
+    settled.and_then(|settled| fill::fill(&Encoding::of(&settled), groups, marks)).err().unwrap_or(0)
+}
+
 impl Calls for Counterpart {
     fn read(&self, sheet: &[u8]) -> u64 {
         match read(sheet) {
@@ -117,6 +124,10 @@ impl Calls for Counterpart {
         close_number(settled(sheet), closed, marks, groups).err().unwrap_or(0)
     }
 
+    fn fill(&self, sheet: &[u8], groups: &[u64], marks: &mut [u8]) -> u32 {
+        fill_number(settled(sheet), groups, marks)
+    }
+
     fn settle_model(&self, words: &[u64], table: &mut [u64]) -> u64 {
         let settled = from_words(words).and_then(|model| settle(model).ok_or(CONTRADICTION));
         settle_number(settled, table).unwrap_or_else(|number| u64::from(number) << 16)
@@ -128,6 +139,10 @@ impl Calls for Counterpart {
 
     fn close_model(&self, words: &[u64], closed: u32, marks: &[u8], groups: &mut [u64]) -> u32 {
         close_number(given(words), closed, marks, groups).err().unwrap_or(0)
+    }
+
+    fn fill_model(&self, words: &[u64], groups: &[u64], marks: &mut [u8]) -> u32 {
+        fill_number(given(words), groups, marks)
     }
 
     fn write_model(&self, words: &[u64], buffer: &mut [u8]) -> u64 {

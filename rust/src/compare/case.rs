@@ -1,6 +1,7 @@
 //! One case of the comparison: a call's input, the kind of case it is, and whether both sides answer alike.
 use super::calls::{settled, Calls, Counterpart};
 use super::certificates::{self, CertificateCase};
+use super::filling::{self, FillCase};
 use super::limits;
 use super::models::{self, ModelCase};
 use crate::encode::Encoding;
@@ -41,6 +42,7 @@ pub enum Case {
         marks: Vec<u8>,
         room: usize,
     },
+    Fill(FillCase),
     Model(ModelCase),
     Certificate(CertificateCase),
 }
@@ -51,7 +53,7 @@ pub const SAMPLE: Kind = "line: answers to the published samples";
 
 /// Every kind of case, in the order of the report. A run that misses one has failed.
 pub fn kinds() -> impl Iterator<Item = Kind> {
-    KINDS.iter().copied().chain(limits::kinds()).chain(models::KINDS.iter().chain(certificates::KINDS).copied())
+    KINDS.iter().copied().chain(filling::kinds()).chain(limits::kinds()).chain(models::KINDS.iter().chain(certificates::KINDS).copied())
 }
 
 const KINDS: &[Kind] = &[
@@ -116,6 +118,7 @@ const KINDS: &[Kind] = &[
     "close: sheet refused",
     "close: 24 table too short",
     "close: refused, table too short",
+    "close: filling gives the marks again",
 ];
 
 /// What came of a case. Several calls, each of one kind or more, may be in it.
@@ -171,6 +174,7 @@ pub fn check(case: &Case, other: &dyn Calls) -> Outcome {
         Case::Blocks { sheet, rooms } => check_blocks(sheet, rooms, other, &mut outcome),
         Case::Lines { marks, lines } => check_lines(marks, lines, other, &mut outcome),
         Case::Close { sheet, closed, marks, room } => check_close(sheet, *closed, marks, *room, other, &mut outcome),
+        Case::Fill(fill) => fill.check(other, &mut outcome),
         Case::Model(model) => model.check(other, &mut outcome),
         Case::Certificate(certificate) => certificate.check(other, &mut outcome),
     }
@@ -363,6 +367,9 @@ fn check_close(sheet: &[u8], closed: bool, marks: &[u8], room: usize, other: &dy
     }
     outcome.compare("refusal", answer, other.close(sheet, closed.into(), marks, &mut theirs));
     outcome.compare_bytes("groups", &ours, &theirs);
+    if answer == 0 {
+        filling::check_again(sheet, marks, &theirs, other, outcome);
+    }
 }
 
 fn close_kind(sheet: &[u8], closed: bool, marks: &[u8], answer: u32) -> Kind {
@@ -392,8 +399,17 @@ impl Case {
             Case::Read { sheet } | Case::Settle { sheet, .. } | Case::Block { sheet, .. } | Case::Blocks { sheet, .. } | Case::Close { sheet, .. } => {
                 Some(sheet)
             }
+            Case::Fill(fill) => Some(&fill.sheet),
             Case::Certificate(certificate) => Some(&certificate.sheet),
             Case::Lines { .. } | Case::Model(_) => None,
+        }
+    }
+
+    /// The words of groups that the case has.
+    pub fn groups(&mut self) -> Option<&mut Vec<u64>> {
+        match self {
+            Case::Fill(fill) => Some(&mut fill.groups),
+            _ => None,
         }
     }
 
@@ -409,6 +425,7 @@ impl Case {
                 }
                 *sheet = new;
             }
+            Case::Fill(fill) => *fill = fill.with_sheet(new),
             Case::Certificate(certificate) => *certificate = certificate.with_sheet(new),
             Case::Lines { .. } | Case::Model(_) => {}
         }
@@ -426,6 +443,7 @@ impl Case {
             Case::Settle { sheet: s, spare } => format!("settle, table of 4*s{spare:+} words\n{}", sheet(s)),
             Case::Block { sheet: s, block, spare } => format!("block {block}, buffer of the block's length{spare:+}\n{}", sheet(s)),
             Case::Blocks { sheet: s, rooms } => format!("runs of blocks, buffers of {rooms:?} bytes\n{}", sheet(s)),
+            Case::Fill(fill) => fill.show(),
             Case::Model(model) => model.show(),
             Case::Certificate(certificate) => certificate.show(),
             Case::Close { sheet: s, closed, marks, room } => format!("close, closed {closed}, marks {marks:?}, table of {room} words\n{}", sheet(s)),

@@ -3,6 +3,7 @@ pub mod answers;
 pub mod calls;
 pub mod case;
 pub mod certificates;
+pub mod filling;
 pub mod limits;
 pub mod models;
 pub mod programs;

@@ -1,10 +1,11 @@
-//! Models as words, whole and damaged in one word, for settling, a block, closing and the model's sheet.
-use super::answers;
+//! Models as words, whole and damaged in one word, for settling, a block, closing, filling and the model's sheet.
 use super::calls::{given, Calls, Counterpart};
 use super::case::{junk, junk_words, Kind, Outcome};
+use super::filling::{self, marks_length, Origin};
 use super::limits::{unsettled_alone, widened};
 use super::random::Random;
 use crate::encode::Encoding;
+use crate::fill::assignment;
 use crate::model::Model;
 use crate::refusal::*;
 use crate::settle::settle;
@@ -33,6 +34,12 @@ enum Call {
     Close {
         closed: bool,
         marks: Vec<u8>,
+    },
+    /// Marks beyond the number of variables, or missing.
+    Fill {
+        groups: Vec<u64>,
+        origin: Origin,
+        spare: isize,
     },
     /// Bytes of the buffer beyond the sheet's length, or missing.
     Write {
@@ -71,6 +78,14 @@ pub const KINDS: &[Kind] = &[
     "model: 22 of closing",
     "model: 22 of closing by limits alone",
     "model: 26, 27 or 28 of closing",
+    "model: filled",
+    "model: 20 of filling from a draw",
+    "model: 20 of filling from other groups",
+    "model: 22 of filling from a draw",
+    "model: 22 of filling from other groups",
+    "model: 22 of filling by limits alone",
+    "model: 30 of filling",
+    "model: 26 of filling",
     "model: sheet",
     "model: sheet in a buffer exactly long enough",
     "model: 20 of a sheet",
@@ -112,6 +127,7 @@ impl ModelCase {
             Call::Settle { room } => self.check_settle(*room, other, outcome),
             Call::Block { block, spare } => self.check_block(*block, *spare, other, outcome),
             Call::Close { closed, marks } => self.check_close(*closed, marks, other, outcome),
+            Call::Fill { groups, origin, spare } => self.check_fill(groups, *origin, *spare, other, outcome),
             Call::Write { spare } => self.check_write(*spare, other, outcome),
         }
     }
@@ -165,6 +181,25 @@ impl ModelCase {
         outcome.compare_bytes("groups", &ours, &theirs);
     }
 
+    fn check_fill(&self, groups: &[u64], origin: Origin, spare: isize, other: &dyn Calls, outcome: &mut Outcome) {
+        let mut ours = junk(marks_length(given(&self.words).as_ref().ok(), spare));
+        let mut theirs = ours.clone();
+        let answer = Counterpart.fill_model(&self.words, groups, &mut ours);
+        let draw = origin == Origin::Draw;
+        outcome.note(match answer {
+            0 => "model: filled",
+            OUT_OF_RANGE if draw => "model: 20 of filling from a draw",
+            OUT_OF_RANGE => "model: 20 of filling from other groups",
+            UNSETTLED if unsettled_alone(&self.words) => "model: 22 of filling by limits alone",
+            UNSETTLED if draw => "model: 22 of filling from a draw",
+            UNSETTLED => "model: 22 of filling from other groups",
+            NO_DRAW => "model: 30 of filling",
+            _ => "model: 26 of filling",
+        });
+        outcome.compare("refusal", answer, other.fill_model(&self.words, groups, &mut theirs));
+        outcome.compare_bytes("marks", &ours, &theirs);
+    }
+
     fn check_write(&self, spare: isize, other: &dyn Calls, outcome: &mut Outcome) {
         let length = from_words(&self.words).map_or(0, |model| sheet::write(&model).len());
         let mut ours = junk(length.saturating_add_signed(spare));
@@ -200,10 +235,11 @@ pub fn case(random: &mut Random, sheet: &[u8], draw: Option<&[u64]>) -> Option<M
     if let Some(place) = damaged {
         words[place] = damage(random, words[place]);
     }
-    let call = match random.below(4) {
+    let call = match random.below(5) {
         0 => Call::Settle { room: (4 * model.groups.len()).saturating_add_signed(random.pick(&[0, 0, -1, 5])) },
         1 => Call::Block { block: random.below(model.groups.len() + model.constraints.len() + 2) as u32, spare: random.pick(&[0, 0, -1, 9]) },
         2 => Call::Write { spare: random.pick(&[0, 0, -1, 9]) },
+        3 => filling(random, &model, draw),
         _ => closing(random, &words, draw),
     };
     Some(ModelCase { words, damaged, call })
@@ -211,11 +247,16 @@ pub fn case(random: &mut Random, sheet: &[u8], draw: Option<&[u64]>) -> Option<M
 
 fn closing(random: &mut Random, words: &[u64], draw: Option<&[u64]>) -> Call {
     let marks = match (given(words), draw) {
-        (Ok(settled), Some(draw)) if draw.len() == settled.model().groups.len() => answers::fill(&Encoding::of(&settled), draw),
+        (Ok(settled), Some(draw)) if draw.len() == settled.model().groups.len() => assignment(&Encoding::of(&settled), draw),
         (Ok(settled), _) => vec![2; Encoding::of(&settled).variables],
         _ => vec![1; random.below(4)],
     };
     Call::Close { closed: random.chance(80), marks }
+}
+
+fn filling(random: &mut Random, model: &Model, draw: Option<&[u64]>) -> Call {
+    let (groups, origin) = filling::groups(random, model.entrants, model.groups.len(), draw);
+    Call::Fill { groups, origin, spare: filling::spare(random) }
 }
 
 /// A word of the model, each field as likely as another; now and then one that is ignored.

@@ -8,6 +8,7 @@ use super::sheets;
 use super::shrink::shrink;
 use crate::answer::read_lines;
 use crate::encode::Encoding;
+use crate::fill::{self, assignment};
 use crate::listing::listing;
 use crate::{close, sheet};
 use std::collections::BTreeMap;
@@ -15,7 +16,14 @@ use std::fs::{self, File};
 use std::path::{Path, PathBuf};
 use std::process::Command;
 
-const PROGRAMS: [&str; 4] = ["read_sheet", "propagate_sheet", "write_cnf", "read_solution"];
+const PROGRAMS: [&str; 5] = ["read_sheet", "propagate_sheet", "write_cnf", "read_solution", "write_values"];
+
+/// A sheet, and what read_solution and write_values are given with it.
+struct Input {
+    sheet: Vec<u8>,
+    answer: Vec<u8>,
+    groups: Vec<u64>,
+}
 
 /// What a program must print: on standard output exactly, or as lines on either output beside words that are free.
 struct Wanted {
@@ -42,14 +50,14 @@ impl Programs {
         let mut met: BTreeMap<Kind, (u64, u64)> = BTreeMap::new();
         let built: Vec<&str> = PROGRAMS.into_iter().filter(|name| self.bin.join(name).is_file()).collect();
         for index in 0..many {
-            let (sheet, answer) = sample(&mut random);
+            let input = sample(&mut random);
             for name in &built {
-                let (kind, same) = self.compare(name, &sheet, &answer)?;
+                let (kind, same) = self.compare(name, &input)?;
                 let counts = met.entry(kind).or_default();
                 counts.0 += 1;
                 counts.1 += u64::from(!same);
                 if !same && counts.1 == 1 {
-                    say(&self.smallest(name, kind, sheet.clone(), &answer));
+                    say(&self.smallest(name, kind, &input));
                 }
             }
             if index % 500 == 499 {
@@ -63,9 +71,9 @@ impl Programs {
         Ok(failures == 0)
     }
 
-    fn compare(&self, name: &str, sheet: &[u8], answer: &[u8]) -> std::io::Result<(Kind, bool)> {
-        let wanted = wanted(name, sheet, answer);
-        let (out, err) = self.print(name, sheet, answer)?;
+    fn compare(&self, name: &str, input: &Input) -> std::io::Result<(Kind, bool)> {
+        let wanted = wanted(name, input);
+        let (out, err) = self.print(name, input)?;
         let same = match &wanted.out {
             Some(exactly) => out == *exactly && same_lines(&err, &wanted.lines),
             None => same_lines(&(err + &String::from_utf8_lossy(&out)), &wanted.lines),
@@ -74,13 +82,13 @@ impl Programs {
     }
 
     /// What a program prints, on standard output and on standard error.
-    fn print(&self, name: &str, sheet: &[u8], answer: &[u8]) -> std::io::Result<(Vec<u8>, String)> {
-        let (sheet_file, answer_file) = (self.scratch.join("sheet"), self.scratch.join("answer"));
-        fs::write(&sheet_file, sheet)?;
+    fn print(&self, name: &str, input: &Input) -> std::io::Result<(Vec<u8>, String)> {
+        let (sheet_file, other_file) = (self.scratch.join("sheet"), self.scratch.join("other"));
+        fs::write(&sheet_file, &input.sheet)?;
         let mut command = Command::new(self.bin.join(name));
-        if name == "read_solution" {
-            fs::write(&answer_file, answer)?;
-            command.arg(&sheet_file).stdin(File::open(&answer_file)?);
+        if let Some(other) = input.beside(name) {
+            fs::write(&other_file, other)?;
+            command.arg(&sheet_file).stdin(File::open(&other_file)?);
         } else {
             command.stdin(File::open(&sheet_file)?);
         }
@@ -88,15 +96,28 @@ impl Programs {
         Ok((output.stdout, String::from_utf8_lossy(&output.stderr).into_owned()))
     }
 
-    fn smallest(&self, name: &str, kind: Kind, sheet: Vec<u8>, answer: &[u8]) -> String {
-        let fails = |case: &Case| case.sheet().is_some_and(|sheet| self.compare(name, sheet, answer).is_ok_and(|(_, same)| !same));
-        let smallest = shrink(Case::Read { sheet }, &fails);
-        let sheet = smallest.sheet().unwrap_or_default();
-        let (out, err) = self.print(name, sheet, answer).unwrap_or_default();
-        let wanted = wanted(name, sheet, answer);
+    fn smallest(&self, name: &str, kind: Kind, input: &Input) -> String {
+        let with = |sheet: &[u8]| Input { sheet: sheet.to_vec(), answer: input.answer.clone(), groups: fitted(&input.groups, sheet) };
+        let fails = |case: &Case| case.sheet().is_some_and(|sheet| self.compare(name, &with(sheet)).is_ok_and(|(_, same)| !same));
+        let smallest = shrink(Case::Read { sheet: input.sheet.clone() }, &fails);
+        let input = with(smallest.sheet().unwrap_or_default());
+        let (out, err) = self.print(name, &input).unwrap_or_default();
+        let wanted = wanted(name, &input);
         let wanted = String::from_utf8_lossy(&wanted.out.unwrap_or_default()).into_owned() + &wanted.lines;
         let printed = String::from_utf8_lossy(&out).into_owned() + &err;
-        format!("difference in {kind}\n{}answer\n  {}\nit printed\n{printed}\nwanted\n{wanted}", smallest.show(), answer.escape_ascii())
+        let other = input.beside(name).unwrap_or_default();
+        format!("difference in {kind}\n{}standard input\n  {}\nit printed\n{printed}\nwanted\n{wanted}", smallest.show(), other.escape_ascii())
+    }
+}
+
+impl Input {
+    /// What a program has on standard input where the sheet is its argument.
+    fn beside(&self, name: &str) -> Option<Vec<u8>> {
+        match name {
+            "read_solution" => Some(self.answer.clone()),
+            "write_values" => Some(close::table(&self.groups).into_bytes()),
+            _ => None,
+        }
     }
 }
 
@@ -114,18 +135,28 @@ fn same_lines(printed: &str, wanted: &str) -> bool {
     reports.len() == wanted.lines().count() && reports.iter().zip(wanted.lines()).all(agree)
 }
 
-/// A sheet, valid or damaged, and an answer for it.
-fn sample(random: &mut Random) -> (Vec<u8>, Vec<u8>) {
+/// A sheet, valid or damaged, with an answer and groups for it.
+fn sample(random: &mut Random) -> Input {
     let sample = if random.chance(15) { limits::sample(random) } else { sheets::valid(random) };
     if random.chance(30) {
-        return (sheets::damaged(random, &sample.sheet), b"v 0\n".to_vec());
+        let sheet = sheets::damaged(random, &sample.sheet);
+        return Input { answer: b"v 0\n".to_vec(), groups: fitted(&[1], &sheet), sheet };
     }
-    let marks = match (settled(&sample.sheet), &sample.draw) {
-        (Ok(settled), Some(draw)) => answers::fill(&Encoding::of(&settled), draw),
-        (Ok(settled), None) => vec![2; Encoding::of(&settled).variables],
-        (Err(_), _) => Vec::new(),
-    };
-    (sample.sheet, answer(random, &marks))
+    let model = sheet::read(&sample.sheet).expect("a valid sheet");
+    let mut groups = sample.draw.unwrap_or_else(|| vec![0; model.groups.len()]);
+    let marks = settled(&sample.sheet).map_or(Vec::new(), |settled| assignment(&Encoding::of(&settled), &groups));
+    if random.chance(30) {
+        groups[random.below(model.groups.len())] ^= 1 << random.below(model.entrants as usize);
+    }
+    Input { sheet: sample.sheet, answer: answer(random, &marks), groups }
+}
+
+/// Groups cut or lengthened to those of a sheet, without entrants that it does not have.
+fn fitted(groups: &[u64], sheet: &[u8]) -> Vec<u64> {
+    let Ok(model) = sheet::read(sheet) else { return groups.to_vec() };
+    let mut groups: Vec<u64> = groups.iter().map(|set| set & model.everyone()).collect();
+    groups.resize(model.groups.len(), 0);
+    groups
 }
 
 /// The marks as a solver prints them, ten to a line; now and then a line of another kind between.
@@ -143,12 +174,14 @@ fn answer(random: &mut Random, marks: &[u8]) -> Vec<u8> {
     text
 }
 
-fn wanted(name: &str, sheet: &[u8], answer: &[u8]) -> Wanted {
+fn wanted(name: &str, input: &Input) -> Wanted {
+    let sheet = &input.sheet;
     match name {
         "read_sheet" => wanted_read(sheet),
         "propagate_sheet" => wanted_settled(sheet),
         "write_cnf" => wanted_listing(sheet),
-        _ => wanted_groups(sheet, answer),
+        "read_solution" => wanted_groups(sheet, &input.answer),
+        _ => wanted_values(sheet, &input.groups),
     }
 }
 
@@ -198,5 +231,18 @@ fn wanted_groups(bytes: &[u8], answer: &[u8]) -> Wanted {
     match close::close(&encoding, closed, &marks) {
         Ok(groups) => whole("read_solution: groups", close::table(&groups).into_bytes(), err),
         Err(number) => refused("read_solution: refused", format!("{err}refused {number}")),
+    }
+}
+
+fn wanted_values(bytes: &[u8], groups: &[u64]) -> Wanted {
+    if let Err(no) = sheet::read(bytes) {
+        return refused("write_values: sheet refused", format!("refused {} at line {}", no.number, no.line));
+    }
+    let Ok(settled) = settled(bytes) else { return refused("write_values: 21", "refused 21".to_string()) };
+    let encoding = Encoding::of(&settled);
+    let mut marks = vec![0; encoding.variables];
+    match fill::fill(&encoding, groups, &mut marks) {
+        Ok(()) => whole("write_values: values", fill::lines(&marks).into_bytes(), String::new()),
+        Err(number) => refused("write_values: refused", format!("refused {number}")),
     }
 }

@@ -3,8 +3,9 @@ use super::calls::{settled, Calls};
 use super::case::{check, kinds, Case, Kind, SAMPLE};
 use super::random::Random;
 use super::shrink::shrink;
-use super::{answers, certificates, limits, models, samples, sheets};
+use super::{answers, certificates, filling, limits, models, samples, sheets};
 use crate::encode::Encoding;
+use crate::fill::assignment;
 use crate::listing::listing;
 use std::collections::BTreeMap;
 use std::time::{Duration, Instant};
@@ -88,6 +89,9 @@ pub fn batch(random: &mut Random) -> Vec<Case> {
     if random.chance(10) {
         return limits_batch(random);
     }
+    if random.below(150) == 0 {
+        return vec![Case::Fill(filling::largest(random))];
+    }
     let sample = sheets::valid(random);
     if random.chance(45) {
         return damaged_batch(random, &sample.sheet);
@@ -103,6 +107,9 @@ pub fn batch(random: &mut Random) -> Vec<Case> {
     for _ in 0..3 {
         cases.extend(models::case(random, &sheet, sample.draw.as_deref()).map(Case::Model));
     }
+    for _ in 0..if sample.draw.is_some() { 3 } else { 1 } {
+        cases.push(Case::Fill(filling::case(random, sheet.clone(), sample.draw.as_deref())));
+    }
     cases.push(close_case(random, sheet, sample.draw.as_deref()));
     cases
 }
@@ -114,6 +121,7 @@ fn limits_batch(random: &mut Random) -> Vec<Case> {
     for _ in 0..3 {
         cases.extend(models::case(random, &sample.sheet, sample.draw.as_deref()).map(Case::Model));
     }
+    cases.push(Case::Fill(filling::case(random, sample.sheet.clone(), sample.draw.as_deref())));
     cases.push(close_case(random, sample.sheet, sample.draw.as_deref()));
     cases
 }
@@ -121,7 +129,8 @@ fn limits_batch(random: &mut Random) -> Vec<Case> {
 fn damaged_batch(random: &mut Random, sheet: &[u8]) -> Vec<Case> {
     let sheet = sheets::damaged(random, sheet);
     let mut cases = vec![Case::Read { sheet: sheet.clone() }];
-    match random.below(7) {
+    match random.below(8) {
+        7 => cases.push(Case::Fill(filling::case(random, sheet, None))),
         6 => cases.push(blocks_case(random, &sheet)),
         0 => cases.push(Case::Settle { sheet, spare: 0 }),
         1 => cases.push(block_case(random, &sheet)),
@@ -165,7 +174,7 @@ fn lines_case(random: &mut Random) -> Case {
 fn close_case(random: &mut Random, sheet: Vec<u8>, draw: Option<&[u64]>) -> Case {
     let mut marks = match settled(&sheet) {
         Ok(settled) => match (Encoding::of(&settled), draw) {
-            (encoding, Some(draw)) => answers::fill(&encoding, draw),
+            (encoding, Some(draw)) => assignment(&encoding, draw),
             (encoding, None) => (0..encoding.variables).map(|_| random.pick(&[1, 2])).collect(),
         },
         Err(_) => vec![1; random.below(5)],
@@ -218,10 +227,12 @@ mod tests {
         block: fn(&[u8], u32, &mut [u8]) -> u64,
         line: fn(u32, &[u8], &mut [u8]) -> u32,
         close: fn(&[u8], u32, &[u8], &mut [u64]) -> u32,
+        fill: fn(&[u8], &[u64], &mut [u8]) -> u32,
         blocks: fn(&[u8], u32, &mut [u8]) -> u64,
         settle_model: fn(&[u64], &mut [u64]) -> u64,
         block_model: fn(&[u64], u32, &mut [u8]) -> u64,
         close_model: fn(&[u64], u32, &[u8], &mut [u64]) -> u32,
+        fill_model: fn(&[u64], &[u64], &mut [u8]) -> u32,
         write_model: fn(&[u64], &mut [u8]) -> u64,
         certify: fn(&[u8], &[u8], &mut Lent) -> u64,
     }
@@ -232,10 +243,12 @@ mod tests {
         block: |sheet, block, buffer| Counterpart.block(sheet, block, buffer),
         line: |closed, line, marks| Counterpart.line(closed, line, marks),
         close: |sheet, closed, marks, groups| Counterpart.close(sheet, closed, marks, groups),
+        fill: |sheet, groups, marks| Counterpart.fill(sheet, groups, marks),
         blocks: |sheet, block, buffer| Counterpart.blocks(sheet, block, buffer),
         settle_model: |words, table| Counterpart.settle_model(words, table),
         block_model: |words, block, buffer| Counterpart.block_model(words, block, buffer),
         close_model: |words, closed, marks, groups| Counterpart.close_model(words, closed, marks, groups),
+        fill_model: |words, groups, marks| Counterpart.fill_model(words, groups, marks),
         write_model: |words, buffer| Counterpart.write_model(words, buffer),
         certify: |sheet, certificate, lent| Counterpart.certify(sheet, certificate, lent),
     };
@@ -256,6 +269,9 @@ mod tests {
         fn close(&self, sheet: &[u8], closed: u32, marks: &[u8], groups: &mut [u64]) -> u32 {
             (self.close)(sheet, closed, marks, groups)
         }
+        fn fill(&self, sheet: &[u8], groups: &[u64], marks: &mut [u8]) -> u32 {
+            (self.fill)(sheet, groups, marks)
+        }
         fn blocks(&self, sheet: &[u8], block: u32, buffer: &mut [u8]) -> u64 {
             (self.blocks)(sheet, block, buffer)
         }
@@ -267,6 +283,9 @@ mod tests {
         }
         fn close_model(&self, words: &[u64], closed: u32, marks: &[u8], groups: &mut [u64]) -> u32 {
             (self.close_model)(words, closed, marks, groups)
+        }
+        fn fill_model(&self, words: &[u64], groups: &[u64], marks: &mut [u8]) -> u32 {
+            (self.fill_model)(words, groups, marks)
         }
         fn write_model(&self, words: &[u64], buffer: &mut [u8]) -> u64 {
             (self.write_model)(words, buffer)
@@ -354,6 +373,58 @@ mod tests {
             answer
         };
         is_caught(Broken { close, ..SOUND }, "close: 28 clause false", "groups at 0");
+    }
+
+    #[test]
+    fn filling_that_judges_26_before_30_is_caught() {
+        let fill = |sheet: &[u8], groups: &[u64], marks: &mut [u8]| match Counterpart.fill(sheet, groups, marks) {
+            30 if settled(sheet).is_ok_and(|settled| Encoding::of(&settled).variables != marks.len()) => 26,
+            answer => answer,
+        };
+        is_caught(Broken { fill, ..SOUND }, "fill: 30 before 26", "\n   1   1   1   0\n   2   1   0   1   1\n");
+    }
+
+    #[test]
+    fn filling_that_leaves_a_mark_on_a_refusal_is_caught() {
+        let fill = |sheet: &[u8], groups: &[u64], marks: &mut [u8]| {
+            let answer = Counterpart.fill(sheet, groups, marks);
+            if answer == 26 && !marks.is_empty() {
+                marks[0] = 1;
+            }
+            answer
+        };
+        is_caught(Broken { fill, ..SOUND }, "fill: 26 a mark too many", "marks at 0");
+    }
+
+    #[test]
+    fn filling_that_looks_past_s_is_caught() {
+        let fill = |sheet: &[u8], groups: &[u64], marks: &mut [u8]| match Counterpart.fill(sheet, groups, marks) {
+            0 if settled(sheet).is_ok_and(|settled| groups.iter().skip(settled.model().groups.len()).any(|&word| word != 0)) => 30,
+            answer => answer,
+        };
+        is_caught(Broken { fill, ..SOUND }, "fill: words past s ignored", "difference in fill");
+    }
+
+    #[test]
+    fn filling_without_counters_is_caught_after_a_closing() {
+        let fill = |sheet: &[u8], groups: &[u64], marks: &mut [u8]| {
+            let answer = Counterpart.fill(sheet, groups, marks);
+            let open = settled(sheet).map_or(0, |settled| settled.model().groups.iter().map(|group| group.open().count_ones() as usize).sum());
+            if answer == 0 {
+                marks[open..].fill(2);
+            }
+            answer
+        };
+        is_caught(Broken { fill, ..SOUND }, "close: filling gives the marks again", "marks filled again at");
+    }
+
+    #[test]
+    fn filling_of_an_unsettled_model_is_caught() {
+        let fill_model = |words: &[u64], groups: &[u64], marks: &mut [u8]| match Counterpart.fill_model(words, groups, marks) {
+            22 => 30,
+            answer => answer,
+        };
+        is_caught(Broken { fill_model, ..SOUND }, "model: 22 of filling by limits alone", "of a model");
     }
 
     /// What `draw_settle` answered before: 0 where nothing was written.

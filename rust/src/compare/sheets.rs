@@ -56,7 +56,7 @@ fn lines(random: &mut Random, size: &Size, sets: &mut [u64], planted: bool) -> V
             if !used[first] {
                 sets[first] = first_set(&line, sets);
             }
-            if !is_true(&line, sets) {
+            if !line.is_true(sets) {
                 continue;
             }
             line.groups.iter().for_each(|&group| used[group] = true);
@@ -99,11 +99,6 @@ fn first_set(line: &Constraint, sets: &[u64]) -> u64 {
         5 => set(1) & !set(2),
         _ => line.groups[1..].iter().fold(0, |union, &group| union | sets[group]),
     }
-}
-
-/// Whether a line is true of the groups.
-pub fn is_true(line: &Constraint, sets: &[u64]) -> bool {
-    sets[line.groups[0]] == first_set(line, sets)
 }
 
 /// How marks and limits are chosen throughout a sheet.

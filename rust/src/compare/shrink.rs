@@ -25,7 +25,14 @@ impl Shrinker<'_> {
     }
 
     fn attempt_model(&mut self, model: &Model) -> bool {
-        self.attempt(self.best.with_sheet(sheet::write(model)))
+        self.attempt_both(model, |_| {})
+    }
+
+    /// A smaller model, with the case's groups changed alike.
+    fn attempt_both(&mut self, model: &Model, change: impl Fn(&mut Vec<u64>)) -> bool {
+        let mut candidate = self.best.with_sheet(sheet::write(model));
+        candidate.groups().into_iter().for_each(change);
+        self.attempt(candidate)
     }
 
     /// The best case's model, where its sheet has one.
@@ -42,12 +49,15 @@ impl Shrinker<'_> {
         if self.model().is_none() && self.best.sheet().is_some() {
             smaller |= self.sweep_text();
         }
-        smaller
+        smaller | self.sweep_groups()
     }
 
     fn sweep_model(&mut self) -> bool {
         let many = |shrinker: &Self, count: fn(&Model) -> usize| shrinker.model().map_or(0, |model| count(&model));
         let mut smaller = false;
+        while self.half_the_lines() {
+            smaller = true;
+        }
         for index in (0..many(self, |model| model.constraints.len())).rev() {
             smaller |= self.without_line(index);
         }
@@ -61,6 +71,13 @@ impl Shrinker<'_> {
             smaller |= self.looser_group(index);
         }
         smaller
+    }
+
+    fn half_the_lines(&mut self) -> bool {
+        let mut model = self.model().unwrap();
+        let many = model.constraints.len();
+        model.constraints.truncate(many / 2);
+        many > 0 && self.attempt_model(&model)
     }
 
     fn without_line(&mut self, index: usize) -> bool {
@@ -86,7 +103,11 @@ impl Shrinker<'_> {
         model.groups.remove(index);
         let numbers = model.constraints.iter_mut().flat_map(|line| line.groups.iter_mut());
         numbers.filter(|number| **number > index).for_each(|number| *number -= 1);
-        self.attempt_model(&model)
+        self.attempt_both(&model, |groups| {
+            if index < groups.len() {
+                groups.remove(index);
+            }
+        })
     }
 
     fn without_entrant(&mut self, entrant: u32) -> bool {
@@ -103,7 +124,7 @@ impl Shrinker<'_> {
             group.high = group.high.min(model.entrants);
             group.low = group.low.min(group.high);
         }
-        self.attempt_model(&model)
+        self.attempt_both(&model, |groups| groups.iter_mut().for_each(|set| *set = squeeze(*set)))
     }
 
     /// The group without limits and marks, or with one of them fewer.
@@ -154,6 +175,24 @@ impl Shrinker<'_> {
             smaller = true;
         }
         smaller | self.sweep_certificate()
+    }
+
+    /// Words of the groups dropped from the end, half of them or the last, or else emptied.
+    fn sweep_groups(&mut self) -> bool {
+        let mut smaller = false;
+        while self.attempt_groups(|groups| groups.truncate(groups.len() / 2)) || self.attempt_groups(|groups| groups.truncate(groups.len().saturating_sub(1))) {
+            smaller = true;
+        }
+        for index in 0..self.best.groups().map_or(0, |groups| groups.len()) {
+            smaller |= self.attempt_groups(|groups| groups[index] = 0);
+        }
+        smaller
+    }
+
+    fn attempt_groups(&mut self, change: impl Fn(&mut Vec<u64>)) -> bool {
+        let mut candidate = self.best.clone();
+        candidate.groups().into_iter().for_each(change);
+        candidate.groups() != self.best.groups() && self.attempt(candidate)
     }
 
     fn sweep_certificate(&mut self) -> bool {

@@ -2,7 +2,7 @@
 use mathlib.Core.Path.{sym, _∙_}
 use native.Mathlib.Omega.{arith}
 use lib.ListN.{length-take}
-use Rattle.answer.proofs.Values.{unsaid-le, values-inside}
+use Rattle.answer.proofs.Values.{unsaid-le, text-inside}
 use borrow.Author.Needs.{needs}
 use Rattle.read_answer.proofs.print_answer.Statement.{statement}
 use Rattle.read_answer.proofs.print_answer.Tie as tie
@@ -32,10 +32,10 @@ returns : tie.Need-returns
 returns c = search needs
 
 array-share-prefix-line : tie.Need-array-share-prefix-line
-array-share-prefix-line c = omega (arith, values-inside _ _ (c .before .n .given .0 .0) (sym (c .before .n .given .1) ∙ c .before .before .before .before .write-values .ensures .0), c .before .before .before .before .write-values .kept .1 .0)
+array-share-prefix-line c = omega (arith, text-inside _ _ _ (c .before .n .given .0 .0) (sym (c .before .n .given .1) ∙ c .before .before .before .before .write-values .ensures .0), c .before .before .before .before .write-values .kept .1 .0)
 
 slice-aggregate-write : tie.Need-slice-aggregate-write
-slice-aggregate-write c = simp length-take (omega (arith, values-inside _ _ (c .before .before .n .given .0 .0) (sym (c .before .before .n .given .1) ∙ c .before .before .before .before .before .write-values .ensures .0), c .before .before .before .before .before .write-values .kept .1 .0))
+slice-aggregate-write c = simp length-take (omega (arith, text-inside _ _ _ (c .before .before .n .given .0 .0) (sym (c .before .before .n .given .1) ∙ c .before .before .before .before .before .write-values .ensures .0), c .before .before .before .before .before .write-values .kept .1 .0))
 
 write-requires : tie.Need-write-requires
 write-requires c κs = search needs

@@ -1,0 +1,3 @@
+pub mod Entrants
+pub mod Lines
+mod Examples
