@@ -34,7 +34,14 @@ def faults(rows, groups):
             yield f"constraint line {at} is not true"
 
 
-sheet = [[int(field) for field in line.split()] for line in open(sys.argv[1])]
+def numbers(line):
+    """A line's numbers, by columns. From the fifth field on, in a line whose first is 2, four spaces are a mark of 1."""
+    fields = [line[at : at + 4] for at in range(0, len(line), 4)]
+    marks = fields[4:] if int(fields[0]) == 2 else []
+    return [int(field) for field in fields[: len(fields) - len(marks)]] + [1 if mark == "    " else int(mark) for mark in marks]
+
+
+sheet = [numbers(line.rstrip("\n")) for line in open(sys.argv[1])]
 lines = [line.split(":") for line in sys.stdin]
 wrong = list(faults(sheet, {int(number): set(map(int, entrants.split())) for number, entrants in lines}))
 print("\n".join(wrong) if wrong else "a draw")

@@ -11,8 +11,9 @@ FIRST = {BOTH: set.intersection, EITHER: set.union, LESS: set.difference, UNION:
 
 
 class Sheet:
-    def __init__(self, entrants):
-        self.entrants, self.groups, self.lines = entrants, [], []
+    def __init__(self, entrants, blank=False):
+        """Where `blank`, open marks are left blank, but for the last column: spaces at a line's end are easily lost."""
+        self.entrants, self.blank, self.groups, self.lines = entrants, blank, [], []
 
     def group(self, low, high, fixed=(), barred=()):
         """A new group; gives its number."""
@@ -42,7 +43,8 @@ class Sheet:
 
     def text(self):
         rows = [[1, self.entrants, len(self.groups), len(self.lines)]]
-        rows += [[2, number, *group] for number, group in enumerate(self.groups, 1)]
+        column = lambda mark: "" if self.blank and mark == OPEN else mark
+        rows += [[2, number, low, high, *map(column, marks), last] for number, (low, high, *marks, last) in enumerate(self.groups, 1)]
         rows += [[3, *line] for line in self.lines]
         return "".join("".join(f"{field:4}" for field in row) + "\n" for row in rows)
 
@@ -65,6 +67,25 @@ def golfers(tables, size, weeks, first=True, later=True):
     for one, other in itertools.combinations(season, 2):
         for f, g in itertools.product(one, other):
             sheet.share(1, f, g)
+    return sheet
+
+
+def golf_day():
+    """A society's day, with open marks left blank: fourteen golfers, a round in the morning and one in the afternoon, each in four flights of three or four, no two in one flight twice.
+    1, the captain, is in the first flight of both. 6 comes late and is in neither of the first two; 11 leaves early and is in neither of the last two.
+    3 and 8 go in the second flight of the morning; 14 plays in the afternoon only."""
+    sheet = Sheet(14, blank=True)
+    morning = [((1,), (6, 14)), ((3, 8), (6, 14)), ((), (14,)), ((), (14,))]
+    afternoon = [((1,), ()), ((), ()), ((), (11,)), ((), (11,))]
+    rounds = []
+    for places, absent in [(morning, (14,)), (afternoon, ())]:
+        flights = [sheet.group(3, 4, fixed=fixed, barred=barred) for fixed, barred in places]
+        sheet.split(flights, 14 - len(absent), 14 - len(absent), barred=absent)
+        for f, g in itertools.combinations(flights, 2):
+            sheet.share(0, f, g)
+        rounds.append(flights)
+    for f, g in itertools.product(*rounds):
+        sheet.share(1, f, g)
     return sheet
 
 
@@ -179,6 +200,7 @@ SHEETS = {
     "golf-3-3-5": (golfers(3, 3, 5), "no draw"),
     "golf-3-2-5": (golfers(3, 2, 5), "draw"),
     "golf-3-2-6": (golfers(3, 2, 6), "no draw"),
+    "golf-day": (golf_day(), "draw"),
     "bridge-16": (golfers(4, 4, 5), "draw"),
     "bridge-season": (bridge_season(), "draw"),
     "bridge-next-season": (bridge_season(away=((13, 14), (6,), (2, 9))), "last season's draw"),

@@ -25,33 +25,40 @@ pub fn read(sheet: &[u8]) -> Result<Model, Refused> {
     reader.finish().ok_or(Refused { number: KIND, line: line + 1 })
 }
 
-/// The numbers of a line.
+/// The numbers of a line. A blank in a mark column, the fifth field or a later one where the first is 2, is a mark of 1.
 fn read_fields(line: &[u8], fields: &mut Vec<u32>) -> Result<(), u32> {
     if line.is_empty() || !line.len().is_multiple_of(4) {
         return Err(LENGTH);
     }
     fields.clear();
     for field in line.chunks_exact(4) {
-        fields.push(read_field(field).ok_or(FIELD)?);
+        let is_mark = fields.len() >= 4 && fields[0] == 2;
+        fields.push(match read_field(field) {
+            Field::Number(number) => number,
+            Field::Blank if is_mark => 1,
+            Field::Blank | Field::Bad => return Err(FIELD),
+        });
     }
     Ok(())
 }
 
-/// Spaces, then a number without needless zero to the last column.
-fn read_field(field: &[u8]) -> Option<u32> {
+/// What stands in a field's four columns.
+#[derive(Clone, Copy, Debug, PartialEq, Eq)]
+pub enum Field {
+    Number(u32),
+    Blank,
+    Bad,
+}
+
+/// A number is spaces, then digits without needless zero to the last column; a blank is spaces alone.
+pub fn read_field(field: &[u8]) -> Field {
     let spaces = field.iter().take_while(|&&byte| byte == b' ').count();
-    let digits = &field[spaces..];
-    if digits.is_empty() || (digits.len() > 1 && digits[0] == b'0') {
-        return None;
+    match &field[spaces..] {
+        [] => Field::Blank,
+        [b'0', _, ..] => Field::Bad,
+        digits if digits.iter().all(u8::is_ascii_digit) => Field::Number(digits.iter().fold(0, |number, digit| 10 * number + u32::from(digit - b'0'))),
+        _ => Field::Bad,
     }
-    let mut number = 0;
-    for &digit in digits {
-        if !digit.is_ascii_digit() {
-            return None;
-        }
-        number = 10 * number + u32::from(digit - b'0');
-    }
-    Some(number)
 }
 
 /// The model as far as it has been read, and how many lines of each kind the head announced.
@@ -259,5 +266,113 @@ mod tests {
         ] {
             assert_eq!(refusal(&A.replace(from, to)), wanted, "{to}");
         }
+    }
+
+    #[test]
+    fn a_field_is_a_number_blank_or_bad() {
+        for number in [0, 1, 10, 999, 9999] {
+            assert_eq!(read_field(&write_field(number)), Field::Number(number));
+        }
+        assert_eq!(read_field(b"    "), Field::Blank);
+        for bad in [b"\t   ", b"   \t", b"  \0 ", b"1   ", b"  1 ", b"  01", b"  00", b"  -1", b" 1 1"] {
+            assert_eq!(read_field(bad), Field::Bad, "{}", bad.escape_ascii());
+        }
+    }
+
+    const ONE: &str = "   2   1   1   1   1   1   1\n";
+    const TWO: &str = "   2   2   0   3   1   1   0\n";
+
+    #[test]
+    fn a_blank_mark_is_1() {
+        let wanted = read(A.as_bytes()).unwrap();
+        for (from, to) in [
+            (ONE, "   2   1   1   1   1       1\n"),
+            (ONE, "   2   1   1   1       1   1\n"),
+            (ONE, "   2   1   1   1   1   1    \n"),
+            (ONE, "   2   1   1   1            \n"),
+            (TWO, "   2   2   0   3           0\n"),
+        ] {
+            assert_eq!(read(A.replace(from, to).as_bytes()).as_ref(), Ok(&wanted), "{to}");
+        }
+        let blank = A.replace(ONE, "   2   1   1   1            \n").replace(TWO, "   2   2   0   3           0\n");
+        assert_eq!(read(blank.as_bytes()).as_ref(), Ok(&wanted));
+        assert_eq!(write(&wanted), A.as_bytes());
+    }
+
+    #[test]
+    fn a_blank_is_4_where_no_mark_stands() {
+        for (from, to, line) in [
+            ("   1   3   2   1\n", "       3   2   1\n", 1),
+            ("   1   3   2   1\n", "   1       2   1\n", 1),
+            ("   1   3   2   1\n", "   1   3       1\n", 1),
+            ("   1   3   2   1\n", "   1   3   2    \n", 1),
+            ("   1   3   2   1\n", "   1   3   2   1    \n", 1),
+            (ONE, "       1   1   1   1   1   1\n", 2),
+            (ONE, "   2       1   1   1   1   1\n", 2),
+            (ONE, "   2   1       1   1   1   1\n", 2),
+            (ONE, "   2   1   1       1   1   1\n", 2),
+            (ONE, "   2   1   1       1       1\n", 2),
+            ("   3   2   1   2\n", "       2   1   2\n", 4),
+            ("   3   2   1   2\n", "   3       1   2\n", 4),
+            ("   3   2   1   2\n", "   3   2       2\n", 4),
+            ("   3   2   1   2\n", "   3   2   1    \n", 4),
+            ("   3   2   1   2\n", "   3   2   1   2    \n", 4),
+            // a line of another kind, or of none, has no mark columns
+            (ONE, "   3   1   1   1   1       1\n", 2),
+            (ONE, "   1   1   1   1   1       1\n", 2),
+            (ONE, "   4   1   1   1   1       1\n", 2),
+            (ONE, "  22   1   1   1   1       1\n", 2),
+            (ONE, "  02   1   1   1   1       1\n", 2),
+            (ONE, "  2    1   1   1   1       1\n", 2),
+        ] {
+            assert_eq!(refusal(&A.replace(from, to)), (4, line), "{to}");
+        }
+    }
+
+    #[test]
+    fn blank_marks_beside_another_fault() {
+        for (from, to, wanted) in [
+            // three or five spaces, a byte that is no space, and numbers out of their columns
+            (ONE, "   2   1   1   1   1      1\n", (3, 2)),
+            (ONE, "   2   1   1   1   1        1\n", (3, 2)),
+            (ONE, "   2   1   1   1   1  \t    1\n", (4, 2)),
+            (ONE, "   2   1   1   1   1    1  1\n", (4, 2)),
+            (ONE, "   2   1   x   1            \n", (4, 2)),
+            (ONE, "   2   1  01   1            \n", (4, 2)),
+            (ONE, "   2   1   1   1        \n", (6, 2)),
+            (ONE, "   2   1   1   1\n", (6, 2)),
+            (ONE, "   2   1   1   1                \n", (6, 2)),
+            (ONE, "   2   1   1   1   3        \n", (7, 2)),
+            (ONE, "   2   1   2   1            \n", (7, 2)),
+            (ONE, "   2   1   1   4            \n", (7, 2)),
+            (ONE, "   2   2   1   1            \n", (8, 2)),
+        ] {
+            assert_eq!(refusal(&A.replace(from, to)), wanted, "{to}");
+        }
+    }
+
+    #[test]
+    fn blank_marks_where_another_line_is_due() {
+        let blank = "   2   1   1   1            \n";
+        assert_eq!(refusal(blank), (5, 1));
+        assert_eq!(refusal(&(blank.to_string() + A)), (5, 1));
+        assert_eq!(refusal(&A.replace("   3   2   1   2\n", blank)), (5, 4));
+        assert_eq!(refusal(&A.replace("   3   2   1   2\n", "   2   3   1   2            \n")), (5, 4));
+        assert_eq!(refusal(&(A.to_string() + blank)), (5, 5));
+        assert_eq!(refusal(&(A.to_string() + "   2   3   0   0    \n")), (5, 5));
+        assert_eq!(refusal(&(A.to_string() + "   2   3       0    \n")), (4, 5));
+    }
+
+    #[test]
+    fn the_largest_sheet_may_be_blank() {
+        let group = Group { fixed: 0, possible: (1 << ENTRANTS) - 1, low: 0, high: ENTRANTS };
+        let line = |first: usize| Constraint { code: 6, groups: (first..=first + 16).map(|group| group % GROUPS as usize).collect() };
+        let model = Model { entrants: ENTRANTS, groups: vec![group; GROUPS as usize], constraints: (0..LINES as usize).map(line).collect() };
+        let sheet = String::from_utf8(write(&model)).unwrap();
+        let blank = sheet.replace(&"   1".repeat(ENTRANTS as usize), &"    ".repeat(ENTRANTS as usize));
+        assert_eq!(blank.len(), SHEET_BYTES);
+        assert_ne!(blank, sheet);
+        assert_eq!(read(blank.as_bytes()), Ok(model));
+        assert_eq!(refusal(&(blank + "\n")), (1, 0));
     }
 }

@@ -1,5 +1,5 @@
 -- The starred examples A to I of document 01, as request 1 has them, proved together as one table over the definitions; the limits of each code,
--- fillings and the published DIMACS samples beside them. Assumes nothing.
+-- fillings, the published DIMACS samples and blank marks beside them. Assumes nothing.
 use mathlib.Core.Path.{_≡_, refl}
 use Prim.Native.Nat.{ℕ, _-_}
 use Prim.Native.Char.{code}
@@ -13,7 +13,7 @@ use Rattle.model.specs.declared.Literal.{Literal}
 use Rattle.model.specs.declared.Literal.the-variants.{Pos, Neg}
 use Rattle.model.specs.declared.Model.{Model}
 use Rattle.model.specs.declared.Closed.{Closed}
-use Rattle.model.specs.Lists.{every, pairwise, range}
+use Rattle.model.specs.Lists.{every, each, pairwise, range}
 use Rattle.model.specs.Model.{tableOf, inRange}
 use Rattle.model.specs.Sheet.{readSheet}
 use Rattle.model.specs.Propagate.{propagated, sameTable, isFixpoint}
@@ -365,3 +365,61 @@ textTable =
 pub texts : T textTable
 unfolding defs bytes same modelOf settled sheetA sheetE sheetF writesAs unionOfTwo textTable
 texts = tt
+
+-- ---- blank marks (request 3): A's open marks blank in part and altogether; then what is refused, and at which line
+
+-- the refusal and the line of a sheet of these lines
+readsAs : List String → ℕ → ℕ → Bool
+readsAs ls r line = let a = readSheet (each bytes ls) in eqb (a .refusal) r && eqb (a .line) line
+
+headA : String
+headA = "   1   3   2   1\n"
+
+firstA : String
+firstA = "   2   1   1   1            \n"
+
+secondA : String
+secondA = "   2   2   0   3           0\n"
+
+lineA : String
+lineA = "   3   2   1   2\n"
+
+blanksAsOnes : Bool
+blanksAsOnes =
+    readsAs (headA ∷ firstA ∷ secondA ∷ lineA ∷ []) 0 0
+    && same (sheetText (readSheet (each bytes (headA ∷ firstA ∷ secondA ∷ lineA ∷ [])) .model)) (bytes sheetA)
+    && same (sheetText (readSheet (each bytes (headA ∷ "   2   1   1   1       1    \n" ∷ secondA ∷ lineA ∷ [])) .model)) (bytes sheetA)
+
+-- a blank low, high, number and first field of a group line; a tab among the spaces
+blankLimits : Bool
+blankLimits =
+    readsAs (headA ∷ "   2   1       1            \n" ∷ []) 4 2
+    && readsAs (headA ∷ "   2   1   1                \n" ∷ []) 4 2
+    && readsAs (headA ∷ "   2       1   1            \n" ∷ []) 4 2
+    && readsAs (headA ∷ "       1   1   1            \n" ∷ []) 4 2
+    && readsAs (headA ∷ "   2   1   1   1      \t     \n" ∷ []) 4 2
+
+-- in the head and in constraint lines, whatever the column
+blankElsewhere : Bool
+blankElsewhere =
+    readsAs ("   1   3       1\n" ∷ []) 4 1
+    && readsAs (headA ∷ firstA ∷ secondA ∷ "   3   2   1    \n" ∷ []) 4 4
+    && readsAs (headA ∷ firstA ∷ secondA ∷ "   3   6   2   1       2\n" ∷ []) 4 4
+
+-- a line of kind 2 where another one is due, or none; with a field too many, too few; three spaces and five
+blankLines : Bool
+blankLines =
+    readsAs (firstA ∷ []) 5 1
+    && readsAs (headA ∷ firstA ∷ secondA ∷ firstA ∷ []) 5 4
+    && readsAs (headA ∷ firstA ∷ secondA ∷ lineA ∷ firstA ∷ []) 5 5
+    && readsAs (headA ∷ "   2   1   1   1                \n" ∷ []) 6 2
+    && readsAs (headA ∷ "   2   1   1   1        \n" ∷ []) 6 2
+    && readsAs (headA ∷ "   2   1   1   1           \n" ∷ []) 3 2
+    && readsAs (headA ∷ "   2   1   1   1             \n" ∷ []) 3 2
+
+pub blankTable : Bool
+blankTable = blanksAsOnes && blankLimits && blankElsewhere && blankLines
+
+pub blanks : T blankTable
+unfolding defs bytes same readsAs sheetA headA firstA secondA lineA blanksAsOnes blankLimits blankElsewhere blankLines blankTable
+blanks = tt

@@ -1,6 +1,6 @@
 -- The sheet reader: from bytes to a model, or to a refusal and the number of its line.
-use Prim.Native.Nat.{ℕ, zero, _+_, _-_, _*_, _/_, _%_}
-use mathlib.Core.Bool.{Bool, cond, not, _&&_}
+use Prim.Native.Nat.{ℕ, _+_, _-_, _*_, _/_, _%_}
+use mathlib.Core.Bool.{Bool, true, false, cond, not, _&&_}
 use mathlib.Core.List.{List, [], _∷_, _++_, map}
 use mathlib.Core.Option.{Option, none, some}
 use lib.Dec.{leb, ltb, eqb}
@@ -9,7 +9,9 @@ use Rattle.model.specs.declared.Group.{Group}
 use Rattle.model.specs.declared.Constraint.{Constraint}
 use Rattle.model.specs.declared.Model.{Model}
 use Rattle.model.specs.declared.Digits.{Digits}
-use Rattle.model.specs.declared.Digits.the-variants.{Number, Bad}
+use Rattle.model.specs.declared.Digits.the-variants.{Number as Digits·Number, Bad as Digits·Bad}
+use Rattle.model.specs.declared.Field.{Field}
+use Rattle.model.specs.declared.Field.the-variants.{Number, Blank, Bad}
 use Rattle.model.specs.declared.SheetRead.{SheetRead}
 use Rattle.model.specs.Lists.{every, between, distinct, range, stop}
 use Rattle.model.specs.Words.{wordWhere}
@@ -45,12 +47,12 @@ digitsAfter v [] = some v
 digitsAfter v (d ∷ ds) = cond (between 48 57 d) (digitsAfter (v * 10 + (d - 48)) ds) none
 
 abbrev pub asDigits : Option ℕ → Digits
-asDigits none = Bad
-asDigits (some v) = Number v
+asDigits none = Digits·Bad
+asDigits (some v) = Digits·Number v
 
 -- up to 9 digits, whose number fits a word of 32 bits
 unfoldable pub shortNumber : List ℕ → Digits
-shortNumber ds = cond (leb (length ds) 9) (asDigits (digitsAfter 0 ds)) Bad
+shortNumber ds = cond (leb (length ds) 9) (asDigits (digitsAfter 0 ds)) Digits·Bad
 
 -- one digit, or more of which the first is not 0
 unfoldable pub numberOf : List ℕ → Option ℕ
@@ -58,22 +60,33 @@ numberOf ds =
     cond (eqb (length ds) 0) none
     (cond (ltb 1 (length ds) && eqb (getD ds 0 0) 48) none (digitsAfter 0 ds))
 
-unfoldable pub fieldValue : List ℕ → Digits
-fieldValue f = cond (eqb (length f) 4) (asDigits (numberOf (afterSpaces f))) Bad
+abbrev pub asField : Option ℕ → Field
+asField none = Bad
+asField (some v) = Number v
 
--- "When an answer is an enum, a definition gives this paper's number and values for each of its cases": of digits, the number that they stand for;
--- of a field, refusal 4 and its number
+-- Request 3 of document 02: "The reading of a field must tell its callers "blank" as well as "number" and "bad"."
+unfoldable pub fieldValue : List ℕ → Field
+fieldValue f =
+    cond (not (eqb (length f) 4)) Bad
+    (cond (eqb (length (afterSpaces f)) 0) Blank (asField (numberOf (afterSpaces f))))
+
+-- "When an answer is an enum, a definition gives this paper's number and values for each of its cases": of digits, the number that they stand for
 abbrev pub digitsValue : Digits → Option ℕ
-digitsValue (Number v) = some v
-digitsValue Bad = none
+digitsValue (Digits·Number v) = some v
+digitsValue Digits·Bad = none
 
-abbrev pub fieldRefusal : Digits → ℕ
-fieldRefusal (Number v) = 0
-fieldRefusal Bad = 4
+-- of a field in a mark column (true) or elsewhere (false), refusal 4 and its number: "Four spaces in a mark column now mean 1." "Four spaces elsewhere remain 4."
+abbrev pub fieldRefusal : Field → Bool → ℕ
+fieldRefusal (Number v) mark = 0
+fieldRefusal Blank true = 0
+fieldRefusal Blank false = 4
+fieldRefusal Bad mark = 4
 
-abbrev pub fieldNumber : Digits → ℕ
-fieldNumber (Number v) = v
-fieldNumber Bad = 0
+abbrev pub fieldNumber : Field → Bool → ℕ
+fieldNumber (Number v) mark = v
+fieldNumber Blank true = 1
+fieldNumber Blank false = 0
+fieldNumber Bad mark = 0
 
 -- a refusal where there is no number, and the number or 0
 abbrev pub ifNone : ℕ → Option ℕ → ℕ
@@ -84,16 +97,22 @@ abbrev pub orZero : Option ℕ → ℕ
 orZero none = 0
 orZero (some v) = v
 
--- the number of a field of four bytes, if it has one
-unfoldable pub numberIn : List ℕ → Option ℕ
-numberIn f = cond (eqb (length f) 4) (numberOf (afterSpaces f)) none
+-- the number of a field of four bytes, if it has one: in a mark column (true) or elsewhere
+unfoldable pub numberIn : List ℕ → Bool → Option ℕ
+numberIn f mark =
+    cond (not (eqb (length f) 4)) none
+    (cond (mark && eqb (length (afterSpaces f)) 0) (some 1) (numberOf (afterSpaces f)))
 
--- the number in field i of a line
+-- the number in field i of a line, where it is no mark column
 unfoldable pub valueAt : List ℕ → ℕ → ℕ
-valueAt l i = fieldNumber (fieldValue (fieldAt l i))
+valueAt l i = fieldNumber (fieldValue (fieldAt l i)) false
+
+-- "A mark column is the fifth field or a later one in a line whose first field is 2."
+unfoldable pub isMarkColumn : List ℕ → ℕ → Bool
+isMarkColumn l i = leb 4 i && eqb (valueAt l 0) 2
 
 unfoldable pub goodField : List ℕ → ℕ → Bool
-goodField l i = eqb (fieldRefusal (fieldValue (fieldAt l i))) 0
+goodField l i = eqb (fieldRefusal (fieldValue (fieldAt l i)) (isMarkColumn l i)) 0
 
 -- "3 length zero or no multiple of 4. 4 field not as above."
 unfoldable pub formRefusal : List ℕ → ℕ
@@ -119,7 +138,7 @@ withHead l m = record { n = valueAt l 1; s = valueAt l 2; c = valueAt l 3; group
 
 -- the mark of bit e
 unfoldable pub markAt : List ℕ → ℕ → ℕ
-markAt l e = valueAt l (4 + e)
+markAt l e = fieldNumber (fieldValue (fieldAt l (4 + e))) true
 
 unfoldable pub groupRefusal : ℕ → ℕ → List ℕ → ℕ
 groupRefusal n g l =

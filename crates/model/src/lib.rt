@@ -49,9 +49,16 @@ pub struct Model {
     pub constraints: [Constraint; Model::CONSTRAINTS],
 }
 
-// What digits stand for: a field of a sheet, or a literal of a solver's line without its sign.
+// What digits stand for: those of a field of a sheet, or of a literal of a solver's line without its sign.
 pub enum Digits {
     Number(u32),
+    Bad,
+}
+
+// What stands in a field of a sheet.
+pub enum Field {
+    Number(u32),
+    Blank,
     Bad,
 }
 

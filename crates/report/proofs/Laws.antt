@@ -49,9 +49,9 @@ table-length most (e ∷ es) k h = go (eqb k (e .0)) (table-length most es k (an
     go true rest = leb-true (length (bytes (e .1))) most (T-true _ (and-left (leb (length (bytes (e .1))) most) _ h))
     go false rest = rest
 
-meaning-length : (refusal : ℕ) → length (meaningText refusal) ≤ 95
+meaning-length : (refusal : ℕ) → length (meaningText refusal) ≤ 116
 unfolding meaningText
-meaning-length refusal = table-length 95 meanings refusal tt
+meaning-length refusal = table-length 116 meanings refusal tt
 
 reason-length : (reason : ℕ) → length (reasonText reason) ≤ 60
 unfolding reasonText
@@ -86,8 +86,8 @@ add-text u = more u (length u) (omega arith)
 pub add-decimal : (v : ℕ) → v < 2 ^ 32 → {m r : Message} {t : List ℕ} {k : ℕ} → r ≡ added m (decimal v) → Says m t k → Says r (t ++ decimal v) (k + 10)
 add-decimal v h = more (decimal v) 10 (decimal-bound 9 v (omega arith))
 
-pub add-meaning : (x : ℕ) {m r : Message} {t : List ℕ} {k : ℕ} → r ≡ added m (meaningText x) → Says m t k → Says r (t ++ meaningText x) (k + 95)
-add-meaning x = more (meaningText x) 95 (meaning-length x)
+pub add-meaning : (x : ℕ) {m r : Message} {t : List ℕ} {k : ℕ} → r ≡ added m (meaningText x) → Says m t k → Says r (t ++ meaningText x) (k + 116)
+add-meaning x = more (meaningText x) 116 (meaning-length x)
 
 pub add-reason : (x : ℕ) {m r : Message} {t : List ℕ} {k : ℕ} → r ≡ added m (reasonText x) → Says m t k → Says r (t ++ reasonText x) (k + 60)
 add-reason x = more (reasonText x) 60 (reason-length x)

@@ -24,7 +24,7 @@ meanings =
     (1, "the sheet has more than 57,873 bytes\n")
     ∷ (2, "the sheet is empty, or its last line does not end in a newline\n")
     ∷ (3, "the line is empty, or its length is no multiple of four columns\n")
-    ∷ (4, "a field is not a number set to the right of its four columns, without needless zeros\n")
+    ∷ (4, "a field is not a number set to the right of its four columns, without needless zeros; only a mark may be left blank\n")
     ∷ (5, "another kind of line belongs here: one head (1), then the groups (2), then the constraints (3)\n")
     ∷ (6, "the number of fields is wrong, or the code is not 1 to 6, or its count is not 2 to 16\n")
     ∷ (7, "a number is out of its range\n")

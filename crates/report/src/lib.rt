@@ -55,7 +55,7 @@ fn add_meaning(m: Message, refusal: u32) -> Message
         ),
         4 => add(
             m,
-            b"a field is not a number set to the right of its four columns, without needless zeros\n",
+            b"a field is not a number set to the right of its four columns, without needless zeros; only a mark may be left blank\n",
         ),
         5 => add(
             m,

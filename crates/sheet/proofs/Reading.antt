@@ -87,7 +87,7 @@ passed true r rest e = (refl, e)
 passed false r rest e = absurd (omega arith)
 
 -- the number of refusal is not 0
-form-passed : (l : List ℕ) (rest : ℕ) → stop (not (eqb (formRefusal l) 0)) (formRefusal l) rest ≡ 0 → rest ≡ 0
+pub form-passed : (l : List ℕ) (rest : ℕ) → stop (not (eqb (formRefusal l) 0)) (formRefusal l) rest ≡ 0 → rest ≡ 0
 form-passed l rest = go (eqb (formRefusal l) 0) refl
   where
     go : (b : Bool) → eqb (formRefusal l) 0 ≡ b → stop (not b) (formRefusal l) rest ≡ 0 → rest ≡ 0

@@ -1,13 +1,17 @@
 // The sheet reader: a club's sheet, byte by byte, to a model. The first step of the chain.
 ghost use mathlib.Core.Path.{_≡_};
-ghost use Prim.Native.Nat.{_≤_, _<_, _+_, _^_};
-ghost use mathlib.Core.Bool.{cond};
+ghost use Prim.Native.Nat.{ℕ, _≤_, _<_, _+_, _^_};
+ghost use mathlib.Core.Bool.{Bool, cond, _&&_};
+ghost use mathlib.Core.List.{List};
+ghost use lib.Dec.{T, leb, eqb};
 ghost use Rattle.model.specs.Lists.{every, range};
 ghost use Rattle.model.specs.Limits.{limits};
-ghost use Rattle.model.specs.Sheet.{fieldAt, afterSpaces, fieldValue, fieldRefusal, fieldNumber, ifNone, orZero, numberIn, valueAt, formRefusal, headRefusal, markAt, groupRefusal, groupFrom, groupCount, firstGroup, countFrom, constraintFrom, constraintRefusal, lineRefusal, refusedSheet, readSheet};
+ghost use Rattle.model.specs.Sheet.{fieldAt, afterSpaces, fieldValue, digitsValue, fieldRefusal, fieldNumber, ifNone, orZero, numberIn, valueAt, formRefusal, headRefusal, markAt, groupRefusal, groupFrom, groupCount, firstGroup, countFrom, constraintFrom, constraintRefusal, lineRefusal, refusedSheet, readSheet};
 ghost use Rattle.sheet.specs.Line.{lineLength, goodMark};
+ghost use Rattle.sheet.specs.Blanks.{sameButBlanks};
 use model::Constraint;
 use model::Digits;
+use model::Field;
 use model::Group;
 use model::Model;
 use model::SheetRead;
@@ -39,36 +43,70 @@ fn unspaced(f: &[u8]) -> &[u8]
     &f[i..]
 }
 
-// The number that a field holds.
-fn number(f: &[u8]) -> Digits
+// What stands in a field: a number, nothing, or what is neither.
+fn read_field(f: &[u8]) -> Field
     ensures { λ r. ⌜ r ≡ fieldValue (now (f .entry)) ⌝ }
-    ensures { λ r. ⌜ (fieldRefusal r ≡ ifNone 4 (numberIn (now (f .entry)))) × (fieldNumber r ≡ orZero (numberIn (now (f .entry)))) ⌝ }
+    ensures { λ r. ⌜ ((mark : Bool) → (fieldRefusal r mark ≡ ifNone 4 (numberIn (now (f .entry)) mark)) × (fieldNumber r mark ≡ orZero (numberIn (now (f .entry)) mark))) ⌝ }
 {
     if f.len() != 4 {
-        return Digits::Bad;
+        return Field::Bad;
     }
     let d = unspaced(f);
     let n = d.len();
     if n == 0 {
-        return Digits::Bad;
-    }
-    if n == 1 {
-        return model::decimal(d);
+        return Field::Blank;
     }
     if d[0] == 48 {
-        return Digits::Bad;
+        if n == 1 {
+            return Field::Number(0);
+        }
+        return Field::Bad;
     }
-    model::decimal(d)
+    let Digits::Number(v) = model::decimal(d) else {
+        return Field::Bad;
+    };
+    Field::Number(v)
 }
 
-// The number in field i of a line; 0 where it is none.
+// The number that a field says in a mark column or elsewhere: 1 where a mark is blank.
+fn number_in(f: &[u8], mark: bool) -> Digits
+    ensures { λ r. ⌜ (ifNone 4 (digitsValue r) ≡ fieldRefusal (fieldValue (now (f .entry))) mark) × (orZero (digitsValue r) ≡ fieldNumber (fieldValue (now (f .entry))) mark) ⌝ }
+{
+    match read_field(f) {
+        Field::Number(v) => Digits::Number(v),
+        Field::Blank => { if mark { Digits::Number(1) } else { Digits::Bad } }
+        Field::Bad => Digits::Bad,
+    }
+}
+
+// The number in field i of a line, where it is no mark column; 0 where it is none.
 fn value(line: &[u8], i: usize) -> u32
     ensures { λ r. ⌜ r ≡ valueAt (now (line .entry)) i ⌝ }
 {
-    let Digits::Number(v) = number(field(line, i)) else {
+    let Digits::Number(v) = number_in(field(line, i), false) else {
         return 0;
     };
     v
+}
+
+// The mark of bit e in a group line; 0 where it is none.
+fn mark(line: &[u8], e: u32) -> u32
+    ensures { λ r. ⌜ r ≡ markAt (now (line .entry)) e ⌝ }
+{
+    let Digits::Number(v) = number_in(field(line, 4 + e as usize), true) else {
+        return 0;
+    };
+    v
+}
+
+// Whether field i is a mark column in a line whose first field is `kind`.
+fn is_mark_column(kind: u32, i: usize) -> bool
+    ensures { λ r. ⌜ r ≡ (leb 4 i && eqb kind 2) ⌝ }
+{
+    if i < 4 {
+        return false;
+    }
+    kind == 2
 }
 
 // Refusals 3 and 4 of a line; 0 where neither applies.
@@ -82,10 +120,11 @@ fn form_refusal(line: &[u8]) -> u32
     if n % 4 != 0 {
         return 3;
     }
+    let kind = value(line, 0);
     let k = n / 4;
     let mut i: usize = 0;
     while i < k {
-        let Digits::Number(_) = number(field(line, i)) else {
+        let Digits::Number(_) = number_in(field(line, i), is_mark_column(kind, i)) else {
             return 4;
         };
         i += 1;
@@ -130,7 +169,7 @@ fn good_marks(line: &[u8], n: u32) -> bool
 {
     let mut e: u32 = 0;
     while e < n {
-        if 2 < value(line, 4 + e as usize) {
+        if 2 < mark(line, e) {
             return false;
         }
         e += 1;
@@ -185,9 +224,9 @@ fn read_group(n: u32, line: &[u8]) -> Group
     let mut possible: u64 = 0;
     let mut e: u32 = 0;
     while e < n {
-        let mark = value(line, 4 + e as usize);
-        fixed = with_bit(fixed, e, mark == 2);
-        possible = with_bit(possible, e, mark != 0);
+        let m = mark(line, e);
+        fixed = with_bit(fixed, e, m == 2);
+        possible = with_bit(possible, e, m != 0);
         e += 1;
     }
     Group {
@@ -324,9 +363,11 @@ fn refused(refusal: u32, line: u32) -> SheetRead
     }
 }
 
-// The model of a sheet, or its refusal and the number of its line.
+// The model of a sheet, or its refusal and the number of its line; the same whole answer for a sheet that differs only in mark columns, blank in one and
+// a written 1 in the other.
 pub fn read_sheet(sheet: &[u8]) -> SheetRead
     ensures { λ r. ⌜ r ≡ readSheet (now (sheet .entry)) ⌝ }
+    ensures { λ r. ⌜ ((b : List ℕ) → T (sameButBlanks (now (sheet .entry)) b) → r ≡ readSheet b) ⌝ }
 {
     let n = sheet.len();
     if Model::SHEET_BYTES < n {

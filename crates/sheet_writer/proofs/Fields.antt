@@ -3,14 +3,15 @@ use mathlib.Core.Path.{_≡_, refl, sym, ap, _∙_}
 use Prim.Native.Nat.{ℕ, zero, suc, _+_, _-_, _*_, _/_, _%_, _≤_, _<_}
 use native.Mathlib.Omega.{arith}
 use native.Mathlib.Decide.{decLt}
-use mathlib.Core.Bool.{true}
+use mathlib.Core.Bool.{Bool, true, false}
 use mathlib.Core.List.{List, [], _∷_, _++_}
 use borrow.Author.Tests.{lt-ltb, le-ltb, le-leb, eq-eqb, ne-eqb}
 use lib.ListN.{length, getD, drop, replicate, length-append, length-replicate, List·getD-eq-default}
 use lib.Seq.{drop-cons, drop-nil, take-at, drop-append-add}
-use Rattle.model.specs.declared.Digits.the-variants.{Number}
+use Rattle.model.specs.declared.Field.{Field}
+use Rattle.model.specs.declared.Field.the-variants.{Number}
 use Rattle.model.specs.Lists.{every, each, range}
-use Rattle.model.specs.Sheet.{afterSpaces, fieldValue, fieldNumber, fieldAt, valueAt, goodField, formRefusal}
+use Rattle.model.specs.Sheet.{afterSpaces, fieldValue, fieldNumber, fieldAt, valueAt, markAt, goodField, formRefusal}
 use Rattle.model.specs.Text.{decimal, fieldText}
 use Rattle.model.proofs.Lists.{T-true, range-every, All, all-append, all-imp, all-each, all-place}
 use Rattle.encoding_laws.proofs.Decimal.{decimal-digits, decimal-some, decimal-number, decimal-bound}
@@ -43,7 +44,13 @@ module _ (v : ℕ) (h : Short v) where
   field-value : fieldValue (fieldText v) ≡ Number v
   unfolding fieldValue
   field-value =
-      rw (field-length, padded, spaces (4 - length (decimal v)) (decimal v) (decimal-some v) (decimal-digits v), decimal-number v)
+      rw (
+        field-length,
+        padded,
+        spaces (4 - length (decimal v)) (decimal v) (decimal-some v) (decimal-digits v),
+        ne-eqb (length (decimal v)) 0 (λ e. let s = decimal-some v in omega arith),
+        decimal-number v,
+      )
 
 -- no byte of a field ends a line
 field-printed : (v : ℕ) → Short v → All (λ b. 32 ≤ b) (fieldText v)
@@ -86,14 +93,21 @@ module _ (fs : List ℕ) (a : All Short fs) where
   value-in : (i : ℕ) → i < length fs → fieldValue (fieldAt (each fieldText fs) i) ≡ Number (getD fs i 0)
   value-in i h = ap fieldValue (field-at i h) ∙ field-value (getD fs i 0) (all-place Short 0 fs a i h)
 
-  -- the number in each field, and 0 past the last
+  -- the number in each field, a mark column or not, and 0 past the last
+  number-in : (i : ℕ) (mark : Bool) → fieldNumber (fieldValue (fieldAt (each fieldText fs) i)) mark ≡ getD fs i 0
+  number-in i mark = go (decLt i (length fs))
+    where
+      go : Dec (i < length fs) → fieldNumber (fieldValue (fieldAt (each fieldText fs) i)) mark ≡ getD fs i 0
+      go (yes h) = ap (λ (x : Field). fieldNumber x mark) (value-in i h)
+      go (no h) = unfold fieldAt fieldValue in rw (row-fields, le-ltb i (length fs) (omega arith)) (sym (List·getD-eq-default fs 0 (omega arith)))
+
   pub row-value : (i : ℕ) → valueAt (each fieldText fs) i ≡ getD fs i 0
   unfolding valueAt
-  row-value i = go (decLt i (length fs))
-    where
-      go : Dec (i < length fs) → fieldNumber (fieldValue (fieldAt (each fieldText fs) i)) ≡ getD fs i 0
-      go (yes h) = ap fieldNumber (value-in i h)
-      go (no h) = unfold fieldAt fieldValue in rw (row-fields, le-ltb i (length fs) (omega arith)) (sym (List·getD-eq-default fs 0 (omega arith)))
+  row-value i = number-in i false
+
+  pub row-mark : (e : ℕ) → markAt (each fieldText fs) e ≡ getD fs (4 + e) 0
+  unfolding markAt
+  row-mark e = number-in (4 + e) true
 
   pub row-form : 0 < length fs → formRefusal (each fieldText fs) ≡ 0
   unfolding formRefusal goodField

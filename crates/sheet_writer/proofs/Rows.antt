@@ -24,7 +24,7 @@ use Rattle.model.proofs.Lists.{T-true, and-right, between-le, le-between, every
 use Rattle.model.proofs.Codes.{by-entrant, count-in, member-bound}
 use Rattle.model.proofs.Words.{Sub, sub-has, sub-le, has-ext, has-past, has-where, where-lt, word-ext}
 use Rattle.propagation_laws.proofs.Ranges.{GroupRange, InRange, constraint-code, groups-in}
-use Rattle.sheet_writer.proofs.Fields.{Short, row-fields, row-value, row-form}
+use Rattle.sheet_writer.proofs.Fields.{Short, row-fields, row-value, row-mark, row-form}
 
 -- ---- the head
 
@@ -125,10 +125,10 @@ module _ (n number : ℕ) (g : Group) (r : GroupRange n g) (few : n ≤ limits .
   group-count = omega (arith, values-length (markOf g) 0 n)
 
   mark-at : (e : ℕ) → e < n → markAt (each fieldText fields) e ≡ markOf g e
-  unfolding markAt groupFields
+  unfolding groupFields
   mark-at e h =
       let k : 4 + e ≡ suc (suc (suc (suc e))) = omega arith in
-      row-value fields group-short (4 + e) ∙ ap (λ (i : ℕ). getD fields i 0) k ∙ getD-map-range (markOf g) 0 n e 0 h ∙ ap (markOf g) (omega arith)
+      row-mark fields group-short e ∙ ap (λ (i : ℕ). getD fields i 0) k ∙ getD-map-range (markOf g) 0 n e 0 h ∙ ap (markOf g) (omega arith)
 
   pub group-good : groupRefusal n number (each fieldText fields) ≡ 0
   unfolding groupRefusal groupFields

@@ -1,4 +1,5 @@
 //! `bench_calls TITLE SHEET ANSWER RUNS`: the calls of the static library beside this crate's, in one process; prints rows of a table in microseconds, the last a ratio.
+use counterpart::compare::blanks::rewritten;
 use counterpart::compare::calls::{settled, Calls, Counterpart};
 use counterpart::encode::Encoding;
 use std::hint::black_box;
@@ -6,6 +7,8 @@ use std::time::Instant;
 
 struct Input {
     sheet: Vec<u8>,
+    /// The sheet with its open marks blank.
+    blank: Vec<u8>,
     answer: Vec<u8>,
     variables: usize,
     /// The marks that the answer says.
@@ -16,11 +19,21 @@ struct Input {
 
 type Work = fn(&dyn Calls, &Input);
 
-const STEPS: [(&str, Work); 5] =
-    [("read", read), ("read and settle", settle), ("solver lines", lines), ("read, settle and close", close), ("read, settle and fill", fill)];
+const STEPS: [(&str, Work); 6] = [
+    ("read", read),
+    ("read, open marks blank", read_blank),
+    ("read and settle", settle),
+    ("solver lines", lines),
+    ("read, settle and close", close),
+    ("read, settle and fill", fill),
+];
 
 fn read(calls: &dyn Calls, input: &Input) {
     black_box(calls.read(&input.sheet));
+}
+
+fn read_blank(calls: &dyn Calls, input: &Input) {
+    black_box(calls.read(&input.blank));
 }
 
 fn settle(calls: &dyn Calls, input: &Input) {
@@ -81,7 +94,8 @@ fn main() {
     let sheet = std::fs::read(sheet).expect("the sheet");
     let answer = std::fs::read(answer).expect("the answer");
     let variables = Encoding::of(&settled(&sheet).expect("a sheet that settles")).variables;
-    let mut input = Input { sheet, answer, variables, marks: Vec::new(), groups: [0; 256] };
+    let blank = rewritten(&sheet, |_| true);
+    let mut input = Input { sheet, blank, answer, variables, marks: Vec::new(), groups: [0; 256] };
     input.marks = marks(&Counterpart, &input);
     assert_eq!(Counterpart.close(&input.sheet, 1, &input.marks, &mut input.groups), 0);
     let Some(other) = other() else {

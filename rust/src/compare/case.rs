@@ -1,9 +1,11 @@
 //! One case of the comparison: a call's input, the kind of case it is, and whether both sides answer alike.
+use super::blanks;
 use super::calls::{settled, Calls, Counterpart};
 use super::certificates::{self, CertificateCase};
 use super::filling::{self, FillCase};
 use super::limits;
 use super::models::{self, ModelCase};
+use super::twins::{self, TwinCase};
 use crate::encode::Encoding;
 use crate::listing::listing;
 use crate::model::GROUPS;
@@ -45,6 +47,7 @@ pub enum Case {
     Fill(FillCase),
     Model(ModelCase),
     Certificate(CertificateCase),
+    Twins(TwinCase),
 }
 
 pub type Kind = &'static str;
@@ -53,7 +56,8 @@ pub const SAMPLE: Kind = "line: answers to the published samples";
 
 /// Every kind of case, in the order of the report. A run that misses one has failed.
 pub fn kinds() -> impl Iterator<Item = Kind> {
-    KINDS.iter().copied().chain(filling::kinds()).chain(limits::kinds()).chain(models::KINDS.iter().chain(certificates::KINDS).copied())
+    let parts = filling::kinds().chain(limits::kinds()).chain([models::KINDS, certificates::KINDS, blanks::KINDS].into_iter().flatten().copied());
+    KINDS.iter().copied().chain(parts).chain(twins::kinds())
 }
 
 const KINDS: &[Kind] = &[
@@ -141,11 +145,17 @@ impl Outcome {
         self.kinds.push(kind);
     }
 
-    /// Keeps the first difference; the counterpart's answer stands first.
-    pub fn compare<T: PartialEq + std::fmt::Debug>(&mut self, what: &str, ours: T, theirs: T) {
-        if ours != theirs && self.difference.is_none() {
-            let words = format!("{what}: counterpart {ours:?}, other side {theirs:?}");
+    /// Keeps the first difference.
+    pub fn differ(&mut self, words: String) {
+        if self.difference.is_none() {
             self.difference = Some(Difference { kinds: self.kinds[self.current..].to_vec(), words });
+        }
+    }
+
+    /// The counterpart's answer stands first.
+    pub fn compare<T: PartialEq + std::fmt::Debug>(&mut self, what: &str, ours: T, theirs: T) {
+        if ours != theirs {
+            self.differ(format!("{what}: counterpart {ours:?}, other side {theirs:?}"));
         }
     }
 
@@ -177,6 +187,7 @@ pub fn check(case: &Case, other: &dyn Calls) -> Outcome {
         Case::Fill(fill) => fill.check(other, &mut outcome),
         Case::Model(model) => model.check(other, &mut outcome),
         Case::Certificate(certificate) => certificate.check(other, &mut outcome),
+        Case::Twins(twins) => twins.check(other, &mut outcome),
     }
     outcome
 }
@@ -184,6 +195,7 @@ pub fn check(case: &Case, other: &dyn Calls) -> Outcome {
 fn check_read(sheet: &[u8], other: &dyn Calls, outcome: &mut Outcome) {
     let answer = Counterpart.read(sheet);
     outcome.note(read_kind(sheet, answer));
+    blanks::met(sheet, answer).into_iter().for_each(|kind| outcome.note(kind));
     outcome.compare("refusal * 65536 + line", answer, other.read(sheet));
 }
 
@@ -393,6 +405,17 @@ fn close_kind(sheet: &[u8], closed: bool, marks: &[u8], answer: u32) -> Kind {
     }
 }
 
+/// A sheet as it stands, or its lines quoted where some byte would not be seen.
+pub fn show_sheet(sheet: &[u8]) -> String {
+    let seen =
+        |line: &[u8]| line.ends_with(b"\n") && !line.ends_with(b" \n") && line[..line.len() - 1].iter().all(|&byte| byte == b' ' || byte.is_ascii_graphic());
+    let lines: Vec<&[u8]> = sheet.split_inclusive(|&byte| byte == b'\n').collect();
+    if lines.iter().all(|line| seen(line)) {
+        return String::from_utf8_lossy(sheet).into_owned();
+    }
+    lines.iter().map(|line| format!("\"{}\"\n", line.escape_ascii())).collect()
+}
+
 impl Case {
     pub fn sheet(&self) -> Option<&[u8]> {
         match self {
@@ -401,6 +424,7 @@ impl Case {
             }
             Case::Fill(fill) => Some(&fill.sheet),
             Case::Certificate(certificate) => Some(&certificate.sheet),
+            Case::Twins(twins) => twins.case.sheet(),
             Case::Lines { .. } | Case::Model(_) => None,
         }
     }
@@ -409,6 +433,7 @@ impl Case {
     pub fn groups(&mut self) -> Option<&mut Vec<u64>> {
         match self {
             Case::Fill(fill) => Some(&mut fill.groups),
+            Case::Twins(twins) => twins.case.groups(),
             _ => None,
         }
     }
@@ -427,6 +452,7 @@ impl Case {
             }
             Case::Fill(fill) => *fill = fill.with_sheet(new),
             Case::Certificate(certificate) => *certificate = certificate.with_sheet(new),
+            Case::Twins(twins) => *twins = twins.with_sheet(new),
             Case::Lines { .. } | Case::Model(_) => {}
         }
         case
@@ -434,21 +460,18 @@ impl Case {
 
     /// The case in words, its sheet or lines below.
     pub fn show(&self) -> String {
-        let text = |bytes: &[u8]| bytes.escape_ascii().to_string();
-        let odd_lines = |sheet: &[u8]| sheet.split_inclusive(|&byte| byte == b'\n').map(|line| format!("\"{}\"\n", text(line))).collect();
-        let plain = |sheet: &[u8]| sheet.ends_with(b"\n") && sheet.iter().all(|&byte| byte == b'\n' || byte == b' ' || byte.is_ascii_graphic());
-        let sheet = |sheet: &[u8]| if plain(sheet) { String::from_utf8_lossy(sheet).into_owned() } else { odd_lines(sheet) };
         match self {
-            Case::Read { sheet: s } => format!("read\n{}", sheet(s)),
-            Case::Settle { sheet: s, spare } => format!("settle, table of 4*s{spare:+} words\n{}", sheet(s)),
-            Case::Block { sheet: s, block, spare } => format!("block {block}, buffer of the block's length{spare:+}\n{}", sheet(s)),
-            Case::Blocks { sheet: s, rooms } => format!("runs of blocks, buffers of {rooms:?} bytes\n{}", sheet(s)),
+            Case::Read { sheet } => format!("read\n{}", show_sheet(sheet)),
+            Case::Settle { sheet, spare } => format!("settle, table of 4*s{spare:+} words\n{}", show_sheet(sheet)),
+            Case::Block { sheet, block, spare } => format!("block {block}, buffer of the block's length{spare:+}\n{}", show_sheet(sheet)),
+            Case::Blocks { sheet, rooms } => format!("runs of blocks, buffers of {rooms:?} bytes\n{}", show_sheet(sheet)),
             Case::Fill(fill) => fill.show(),
             Case::Model(model) => model.show(),
             Case::Certificate(certificate) => certificate.show(),
-            Case::Close { sheet: s, closed, marks, room } => format!("close, closed {closed}, marks {marks:?}, table of {room} words\n{}", sheet(s)),
+            Case::Twins(twins) => twins.show(),
+            Case::Close { sheet, closed, marks, room } => format!("close, closed {closed}, marks {marks:?}, table of {room} words\n{}", show_sheet(sheet)),
             Case::Lines { marks, lines } => {
-                let lines: String = lines.iter().map(|line| format!("  \"{}\"\n", text(line))).collect();
+                let lines: String = lines.iter().map(|line| format!("  \"{}\"\n", line.escape_ascii())).collect();
                 format!("lines on marks {marks:?}\n{lines}")
             }
         }

@@ -1,6 +1,7 @@
 //! Certificates for the comparison: of small sheets that have no draw, whole and tampered, of other sheets, and bytes that are none.
+use super::blanks;
 use super::calls::{settled, Calls, Counterpart, Lent};
-use super::case::{junk, Kind, Outcome};
+use super::case::{junk, show_sheet, Kind, Outcome};
 use super::random::Random;
 use super::search::{search, Found};
 use super::sheets;
@@ -151,6 +152,14 @@ impl CertificateCase {
         }
     }
 
+    /// What the call answers, then the memory it leaves.
+    pub fn answer(&self, other: &dyn Calls) -> Vec<u64> {
+        let mut lent = Lent::new(self.room);
+        let answer = other.certify(&self.sheet, &self.certificate, &mut lent);
+        let words = [lent.store, lent.index, lent.marks].into_iter().flatten().map(u64::from);
+        [answer].into_iter().chain(lent.text.into_iter().map(u64::from)).chain(words).collect()
+    }
+
     /// The same case on another sheet.
     pub fn with_sheet(&self, sheet: Vec<u8>) -> CertificateCase {
         CertificateCase { sheet, origin: self.origin.changed_to(Origin::OtherSheet), ..self.clone() }
@@ -161,7 +170,7 @@ impl CertificateCase {
     }
 
     pub fn show(&self) -> String {
-        format!("certify in {:?}\n{}certificate\n{}\n", self.room, String::from_utf8_lossy(&self.sheet), self.certificate.escape_ascii())
+        format!("certify in {:?}\n{}certificate\n{}\n", self.room, show_sheet(&self.sheet), self.certificate.escape_ascii())
     }
 }
 
@@ -173,8 +182,12 @@ fn roomy(live: usize) -> usize {
 /// The cases made from one sheet, most of them where it has no draw.
 pub fn cases(random: &mut Random) -> Vec<CertificateCase> {
     let model = crowded(random);
+    let mut sheet = sheet::write(&model);
+    if random.chance(40) {
+        sheet = blanks::some(random, &sheet);
+    }
     let room = Room { text: TEXT + random.below(100), store: 1 << 16, index: 1 << 12, marks: 1 << 10 };
-    let noise = CertificateCase { sheet: sheet::write(&model), certificate: noise(random), origin: Origin::Noise, room };
+    let noise = CertificateCase { sheet, certificate: noise(random), origin: Origin::Noise, room };
     let Some(certificate) = certificate(&noise.sheet) else { return vec![noise] };
     let whole = CertificateCase { certificate, origin: Origin::Whole, ..noise.clone() };
     let padded = CertificateCase { certificate: padded(&whole), ..whole.clone() };

@@ -1,6 +1,6 @@
 //! Groups to fill from: draws, and draws with one thing changed, on as many marks as there are variables or not.
 use super::calls::{settled, Calls, Counterpart};
-use super::case::{junk, junk_words, Kind, Outcome};
+use super::case::{junk, junk_words, show_sheet, Kind, Outcome};
 use super::random::Random;
 use crate::encode::Encoding;
 use crate::model::*;
@@ -150,6 +150,13 @@ impl FillCase {
         outcome.compare_bytes("groups closed from the filled marks", &drawn, &closed);
     }
 
+    /// What the call answers, then the marks it leaves.
+    pub fn answer(&self, other: &dyn Calls) -> Vec<u64> {
+        let mut marks = junk(marks_length(settled(&self.sheet).as_ref().ok(), self.spare));
+        let answer = other.fill(&self.sheet, &self.groups, &mut marks);
+        [answer.into()].into_iter().chain(marks.into_iter().map(u64::from)).collect()
+    }
+
     /// The same case on another sheet.
     pub fn with_sheet(&self, sheet: Vec<u8>) -> FillCase {
         FillCase { sheet, ..self.clone() }
@@ -157,7 +164,7 @@ impl FillCase {
 
     pub fn show(&self) -> String {
         let marks = marks_length(settled(&self.sheet).as_ref().ok(), self.spare);
-        format!("fill {marks} marks, groups {:x?} ({:?})\n{}", self.groups, self.origin, String::from_utf8_lossy(&self.sheet))
+        format!("fill {marks} marks, groups {:x?} ({:?})\n{}", self.groups, self.origin, show_sheet(&self.sheet))
     }
 }
 

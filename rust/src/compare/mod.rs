@@ -1,5 +1,6 @@
 //! Comparison of the proved code with this crate, case by case.
 pub mod answers;
+pub mod blanks;
 pub mod calls;
 pub mod case;
 pub mod certificates;
@@ -13,3 +14,4 @@ pub mod samples;
 pub mod search;
 pub mod sheets;
 pub mod shrink;
+pub mod twins;

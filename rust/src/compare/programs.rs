@@ -1,5 +1,6 @@
 //! Comparison with the built programs, each run on generated sheets: what they print against what this crate makes of the sheet.
 use super::answers;
+use super::blanks;
 use super::calls::settled;
 use super::case::{Case, Kind};
 use super::limits;
@@ -135,14 +136,20 @@ fn same_lines(printed: &str, wanted: &str) -> bool {
     reports.len() == wanted.lines().count() && reports.iter().zip(wanted.lines()).all(agree)
 }
 
-/// A sheet, valid or damaged, with an answer and groups for it.
+/// A sheet, valid, with blank marks or damaged, with an answer and groups for it.
 fn sample(random: &mut Random) -> Input {
-    let sample = if random.chance(15) { limits::sample(random) } else { sheets::valid(random) };
+    let mut sample = match random.below(20) {
+        0..=2 => limits::sample(random),
+        3..=5 => blanks::sample(random),
+        _ => sheets::valid(random),
+    };
     if random.chance(30) {
-        let sheet = sheets::damaged(random, &sample.sheet);
-        return Input { answer: b"v 0\n".to_vec(), groups: fitted(&[1], &sheet), sheet };
+        sample.sheet = sheets::damaged(random, &sample.sheet);
+        sample.draw = None;
     }
-    let model = sheet::read(&sample.sheet).expect("a valid sheet");
+    let Ok(model) = sheet::read(&sample.sheet) else {
+        return Input { sheet: sample.sheet, answer: b"v 0\n".to_vec(), groups: vec![1] };
+    };
     let mut groups = sample.draw.unwrap_or_else(|| vec![0; model.groups.len()]);
     let marks = settled(&sample.sheet).map_or(Vec::new(), |settled| assignment(&Encoding::of(&settled), &groups));
     if random.chance(30) {

@@ -2,8 +2,10 @@
 use super::calls::{settled, Calls};
 use super::case::{check, kinds, Case, Kind, SAMPLE};
 use super::random::Random;
+use super::sheets::Sample;
 use super::shrink::shrink;
-use super::{answers, certificates, filling, limits, models, samples, sheets};
+use super::twins::TwinCase;
+use super::{answers, blanks, certificates, filling, limits, models, samples, sheets};
 use crate::encode::Encoding;
 use crate::fill::assignment;
 use crate::listing::listing;
@@ -47,8 +49,8 @@ fn take(case: &Case, other: &dyn Calls, tally: &mut Tally, say: &mut dyn FnMut(&
     tally.calls += outcome.calls;
     outcome.kinds.iter().for_each(|kind| *tally.met.entry(kind).or_default() += 1);
     let Some(difference) = outcome.difference else { return };
-    if difference.kinds.iter().any(|kind| !tally.failed.contains(kind)) {
-        say(&smallest(case, difference.kinds[0], other));
+    if let Some(kind) = difference.kinds.iter().find(|kind| !tally.failed.contains(kind)) {
+        say(&smallest(case, kind, other));
     }
     tally.failed.extend(difference.kinds);
 }
@@ -84,7 +86,11 @@ impl Tally {
 /// The cases made from one sheet.
 pub fn batch(random: &mut Random) -> Vec<Case> {
     if random.chance(4) {
-        return certificates::cases(random).into_iter().map(Case::Certificate).collect();
+        let cases = certificates::cases(random).into_iter().map(Case::Certificate).collect();
+        return with_twins(random, cases);
+    }
+    if random.chance(15) {
+        return blanks_batch(random);
     }
     if random.chance(10) {
         return limits_batch(random);
@@ -92,7 +98,10 @@ pub fn batch(random: &mut Random) -> Vec<Case> {
     if random.below(150) == 0 {
         return vec![Case::Fill(filling::largest(random))];
     }
-    let sample = sheets::valid(random);
+    let mut sample = sheets::valid(random);
+    if random.chance(20) {
+        sample.sheet = blanks::some(random, &sample.sheet);
+    }
     if random.chance(45) {
         return damaged_batch(random, &sample.sheet);
     }
@@ -123,6 +132,26 @@ fn limits_batch(random: &mut Random) -> Vec<Case> {
     }
     cases.push(Case::Fill(filling::case(random, sample.sheet.clone(), sample.draw.as_deref())));
     cases.push(close_case(random, sample.sheet, sample.draw.as_deref()));
+    cases
+}
+
+/// The cases made from one sheet with blank marks.
+fn blanks_batch(random: &mut Random) -> Vec<Case> {
+    let Sample { sheet, draw } = blanks::sample(random);
+    let call = match random.below(5) {
+        0 => Case::Settle { sheet: sheet.clone(), spare: 0 },
+        1 => block_case(random, &sheet),
+        2 => blocks_case(random, &sheet),
+        3 => close_case(random, sheet.clone(), draw.as_deref()),
+        _ => Case::Fill(filling::case(random, sheet.clone(), draw.as_deref())),
+    };
+    with_twins(random, vec![Case::Read { sheet }, call])
+}
+
+/// The cases, and each beside a twin of its sheet.
+fn with_twins(random: &mut Random, mut cases: Vec<Case>) -> Vec<Case> {
+    let twins: Vec<Case> = cases.iter().map(|case| Case::Twins(TwinCase::new(random, case.clone()))).collect();
+    cases.extend(twins);
     cases
 }
 
@@ -204,15 +233,15 @@ mod tests {
 
     const CALLS: u64 = 20_000;
 
-    fn outcome(other: &dyn Calls) -> (Tally, String) {
+    fn outcome(other: &dyn Calls, calls: u64) -> (Tally, String) {
         let mut text = String::new();
-        let tally = run(other, 1, CALLS, &mut |line| text = format!("{text}{line}\n"));
+        let tally = run(other, 1, calls, &mut |line| text = format!("{text}{line}\n"));
         (tally, text)
     }
 
     #[test]
     fn no_difference_from_itself_and_every_kind_is_met() {
-        let (tally, text) = outcome(&Counterpart);
+        let (tally, text) = outcome(&Counterpart, 2 * CALLS);
         assert!(tally.failed.is_empty(), "{text}");
         for kind in kinds() {
             assert!(tally.met.contains_key(kind), "never met: {kind}");
@@ -297,7 +326,7 @@ mod tests {
 
     #[track_caller]
     fn is_caught(broken: Broken, kind: Kind, shown: &str) {
-        let (tally, text) = outcome(&broken);
+        let (tally, text) = outcome(&broken, CALLS);
         assert!(tally.failed.contains(&kind), "{kind} not caught\n{text}");
         assert!(text.contains(shown), "{text}");
     }
@@ -309,6 +338,59 @@ mod tests {
             answer => answer,
         };
         is_caught(Broken { read, ..SOUND }, "read: 9 group twice", "difference in read: 9");
+    }
+
+    /// What the reader did before: a blank mark was 4.
+    #[test]
+    fn a_reader_that_refuses_a_blank_mark_is_caught_with_the_smallest_sheet() {
+        let read = |sheet: &[u8]| {
+            let mut lines = sheet.split(|&byte| byte == b'\n');
+            match (Counterpart.read(sheet), lines.position(|line| line.chunks(4).any(|field| field == b"    "))) {
+                (0, Some(before)) => 4 << 16 | (before as u64 + 1),
+                (answer, _) => answer,
+            }
+        };
+        is_caught(Broken { read, ..SOUND }, "blank: some open marks", "\n\"   1   1   1   0\\n\"\n\"   2   1   0   1    \\n\"\n");
+    }
+
+    #[test]
+    fn a_reader_that_takes_a_blank_low_for_1_is_caught() {
+        let read = |sheet: &[u8]| match Counterpart.read(sheet) {
+            answer if answer >> 16 == 4 => Counterpart.read(&with_low(sheet)),
+            answer => answer,
+        };
+        is_caught(Broken { read, ..SOUND }, "blank: 4 low", "difference in read: 4 field");
+    }
+
+    /// The sheet with 1 for every low that is blank.
+    fn with_low(sheet: &[u8]) -> Vec<u8> {
+        let mut sheet = sheet.to_vec();
+        for line in sheet.split_mut(|&byte| byte == b'\n').filter(|line| line.len() > 16 && line.starts_with(b"   2") && line[8..12] == *b"    ") {
+            line[11] = b'1';
+        }
+        sheet
+    }
+
+    /// A reader that looks for blank marks only where a group line is due.
+    #[test]
+    fn a_reader_that_goes_by_the_place_is_caught() {
+        let read = |sheet: &[u8]| match Counterpart.read(sheet) {
+            answer if blanks::met(sheet, answer).contains(&"blank: 5 where a constraint line is due") => answer - (1 << 16),
+            answer => answer,
+        };
+        is_caught(Broken { read, ..SOUND }, "blank: 5 where a constraint line is due", "difference in read: 5 kind of line");
+    }
+
+    #[test]
+    fn settling_that_takes_a_blank_for_barred_is_caught_by_twins() {
+        let settle = |sheet: &[u8], table: &mut [u64]| {
+            let mut sheet = sheet.to_vec();
+            for line in sheet.split_mut(|&byte| byte == b'\n').filter(|line| line.starts_with(b"   2")) {
+                line.chunks_exact_mut(4).skip(4).filter(|field| **field == *b"    ").for_each(|field| field[3] = b'0');
+            }
+            Counterpart.settle(&sheet, table)
+        };
+        is_caught(Broken { settle, ..SOUND }, "twins: settle", "difference in twins: settle");
     }
 
     #[test]

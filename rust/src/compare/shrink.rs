@@ -1,4 +1,5 @@
 //! A greedy shrinker: makes a failing case smaller as long as it fails.
+use super::blanks;
 use super::case::Case;
 use crate::model::{Group, Model};
 use crate::sheet;
@@ -28,11 +29,18 @@ impl Shrinker<'_> {
         self.attempt_both(model, |_| {})
     }
 
-    /// A smaller model, with the case's groups changed alike.
+    /// A smaller model, with the case's groups and the sheet's blank marks changed alike.
     fn attempt_both(&mut self, model: &Model, change: impl Fn(&mut Vec<u64>)) -> bool {
-        let mut candidate = self.best.with_sheet(sheet::write(model));
+        let mut blanks = self.blanks();
+        change(&mut blanks);
+        let mut candidate = self.best.with_sheet(blanks::written(model, &blanks));
         candidate.groups().into_iter().for_each(change);
         self.attempt(candidate)
+    }
+
+    /// The blank marks of the best case's sheet, as a set a group.
+    fn blanks(&self) -> Vec<u64> {
+        self.best.sheet().map_or(Vec::new(), blanks::of)
     }
 
     /// The best case's model, where its sheet has one.
@@ -69,6 +77,9 @@ impl Shrinker<'_> {
         }
         for index in 0..many(self, |model| model.groups.len()) {
             smaller |= self.looser_group(index);
+        }
+        for index in 0..many(self, |model| model.groups.len()) {
+            smaller |= self.fewer_blanks(index);
         }
         smaller
     }
@@ -141,6 +152,20 @@ impl Shrinker<'_> {
             looser.groups[index] = way;
             way != group && self.attempt_model(&looser)
         })
+    }
+
+    /// The group with its blank marks written, all of them, or one by one.
+    fn fewer_blanks(&mut self, index: usize) -> bool {
+        let model = self.model().unwrap();
+        let mut smaller = false;
+        for written in [u64::MAX].into_iter().chain((0..model.entrants).map(|e| 1 << e)) {
+            let mut blanks = self.blanks();
+            if blanks[index] & written != 0 {
+                blanks[index] &= !written;
+                smaller |= self.attempt(self.best.with_sheet(blanks::written(&model, &blanks)));
+            }
+        }
+        smaller
     }
 
     /// Lines, then fields, then bytes of a sheet that is no sheet.
@@ -281,6 +306,18 @@ mod tests {
         let sheet = "   1   3   4   2\n   2   1   0   3   1   2   0\n   2   2   1   2   1   0   1\n   2   3   0   1   1   1   1\n   2   4   2   2   1   1   1\n   3   2   1   2\n   3   4   3   1   4\n";
         let smallest = shrink(Case::Read { sheet: sheet.as_bytes().to_vec() }, &contradicts);
         let wanted = "   1   1   1   0\n   2   1   1   1   0\n";
+        assert_eq!(String::from_utf8_lossy(smallest.sheet().unwrap()), wanted);
+    }
+
+    #[test]
+    fn blanks_that_matter_are_kept() {
+        let fails = |case: &Case| {
+            let blanks = case.sheet().map_or(Vec::new(), blanks::of);
+            blanks.len() > 1 && blanks[1] & 2 != 0
+        };
+        let sheet = "   1   3   3   1\n   2   1   0   3           0\n   2   2   1   2   2        \n   2   3   0   1   1       1\n   3   2   1   2\n";
+        let smallest = shrink(Case::Read { sheet: sheet.as_bytes().to_vec() }, &fails);
+        let wanted = "   1   2   2   0\n   2   1   0   2   1   1\n   2   2   0   2   1    \n";
         assert_eq!(String::from_utf8_lossy(smallest.sheet().unwrap()), wanted);
     }
 

@@ -8,7 +8,7 @@ use Rattle.certificate.proofs.begin.Tie as tie
 returns : tie.Need-returns
 returns c =
     let o = c .closed .ensures in (
-      o ∙ refused-opening _ _ (c .before .before .before .read-sheet .ensures) (c .before .if1 .taken),
+      o ∙ refused-opening _ _ (c .before .before .before .read-sheet .ensures .0) (c .before .if1 .taken),
       (
         record { out = λ e. absurd (refused-out (sym o ∙ e)); unrefuted = λ e. absurd (refused-open (sym o ∙ e)) },
         λ n. (refl, refl, refl, refl),
@@ -18,7 +18,7 @@ returns c =
 returns-2 : tie.Need-returns-2
 returns-2 c =
     let o = c .closed2 .ensures in
-    let r = c .before .before .before .before .before .before .before .read-sheet .ensures in
+    let r = c .before .before .before .before .before .before .before .read-sheet .ensures .0 in
     let z = c .before .before .before .before .before .if1 .left in
     let p = c .before .before .before .propagate .ensures .0 in (
       o ∙ settled-opening _ _ r z _ p (c .before .if2 .taken),
@@ -30,7 +30,7 @@ returns-2 c =
 
 returns-3 : tie.Need-returns-3
 returns-3 c =
-    let r = c .before .before .before .before .before .before .before .before .before .before .before .before .before .before .before .before .before .before .before .before .before .read-sheet .ensures in
+    let r = c .before .before .before .before .before .before .before .before .before .before .before .before .before .before .before .before .before .before .before .before .before .read-sheet .ensures .0 in
     let z = c .before .before .before .before .before .before .before .before .before .before .before .before .before .before .before .before .before .before .before .if1 .left in
     let p = c .before .before .before .before .before .before .before .before .before .before .before .before .before .before .before .before .before .propagate .ensures .0 in
     let h = c .before .before .before .before .before .before .before .before .before .before .before .before .before .before .before .if2 .left in (

@@ -15,7 +15,7 @@ numbered-requires c κs = search needs
 
 returns : tie.Need-returns
 unfolding drawRead
-returns c = c .numbered .ensures ∙ ap (λ (r : SheetRead). numbered (r .refusal) (r .line)) (c .before .read-sheet .ensures)
+returns c = c .numbered .ensures ∙ ap (λ (r : SheetRead). numbered (r .refusal) (r .line)) (c .before .read-sheet .ensures .0)
 
 pub draw-read-spec : {M : Type 1} → statement M
 draw-read-spec = tie.close (tie.spec read-sheet-requires numbered-requires returns)

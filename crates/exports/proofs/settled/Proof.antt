@@ -9,13 +9,13 @@ read-sheet-requires : tie.Need-read-sheet-requires
 read-sheet-requires c κs = search needs
 
 returns : tie.Need-returns
-returns c = unread _ _ (c .before .before .before .read-sheet .ensures) (c .if1 .taken)
+returns c = unread _ _ (c .before .before .before .read-sheet .ensures .0) (c .if1 .taken)
 
 propagate-requires : tie.Need-propagate-requires
 propagate-requires c κs = search needs
 
 returns-2 : tie.Need-returns-2
-returns-2 c = c .propagate .ensures .0 ∙ read _ _ (c .before .before .before .before .read-sheet .ensures) (c .before .if1 .left)
+returns-2 c = c .propagate .ensures .0 ∙ read _ _ (c .before .before .before .before .read-sheet .ensures .0) (c .before .if1 .left)
 
 pub settled-spec : {M : Type 1} → statement M
 settled-spec = tie.close (tie.spec read-sheet-requires returns propagate-requires returns-2)

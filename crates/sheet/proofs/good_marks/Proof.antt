@@ -3,7 +3,6 @@ use Prim.Native.Nat.{_≤_, _-_}
 use mathlib.Core.Path.{_≡_, sym}
 use native.Mathlib.Nat.{sub-zero}
 use Rattle.model.specs.Lists.{every, range}
-use Rattle.model.specs.Sheet.{markAt}
 use Rattle.model.proofs.Loops.{range-goes, range-stops, range-done}
 use Rattle.sheet.specs.Line.{goodMark}
 use native.Mathlib.Omega.{arith}
@@ -21,18 +20,11 @@ abbrev μ-loop : tie.MeasureT-loop
 loop-holds : tie.Need-loop-holds Inv-loop μ-loop
 loop-holds c = (omega arith, rw sub-zero)
 
-cast-value : tie.Need-cast-value Inv-loop μ-loop
-cast-value c = search needs
-
-add-value : tie.Need-add-value Inv-loop μ-loop
-add-value c = search needs
-
-value-requires : tie.Need-value-requires Inv-loop μ-loop
-value-requires c κs = search needs
+mark-requires : tie.Need-mark-requires Inv-loop μ-loop
+mark-requires c κs = search needs
 
 returns : tie.Need-returns Inv-loop μ-loop
-unfolding markAt
-returns c = sym (range-stops (goodMark (c .before .before .before .before .before .args .line .now)) _ (c .before .before .before .before .before .args .n) (c .before .before .before .loop .e) ((c .before .before .before .loop .inv) .1) (omega arith) (rw (← (c .before .value .ensures)) (lt-leb _ _ (c .if1 .taken))))
+returns c = sym (range-stops (goodMark (c .before .before .before .before .before .args .line .now)) _ (c .before .before .before .before .before .args .n) (c .before .before .before .loop .e) ((c .before .before .before .loop .inv) .1) (omega arith) (rw (← (c .before .mark .ensures)) (lt-leb _ _ (c .if1 .taken))))
 
 add-e : tie.Need-add-e Inv-loop μ-loop
 add-e c = search needs
@@ -41,8 +33,7 @@ loop-less : tie.Need-loop-less Inv-loop μ-loop
 loop-less c = search needs
 
 loop-again : tie.Need-loop-again Inv-loop μ-loop
-unfolding markAt
-loop-again c = (omega arith, range-goes (goodMark (c .before .before .before .before .before .args .line .now)) _ (c .before .before .before .before .before .args .n) (c .before .before .before .loop .e) ((c .before .before .before .loop .inv) .1) (omega arith) (rw (← (c .before .value .ensures)) (le-leb _ _ (c .if1 .left))))
+loop-again c = (omega arith, range-goes (goodMark (c .before .before .before .before .before .args .line .now)) _ (c .before .before .before .before .before .args .n) (c .before .before .before .loop .e) ((c .before .before .before .loop .inv) .1) (omega arith) (rw (← (c .before .mark .ensures)) (le-leb _ _ (c .if1 .left))))
 
 returns-2 : tie.Need-returns-2 Inv-loop μ-loop
 returns-2 c = sym (range-done (goodMark (c .before .before .before .args .line .now)) _ (c .before .before .before .args .n) (c .before .loop .e) ((c .before .loop .inv) .1) (omega arith))
@@ -54,9 +45,7 @@ good-marks-spec =
     Inv-loop
     μ-loop
     loop-holds
-    cast-value
-    add-value
-    value-requires
+    mark-requires
     returns
     add-e
     loop-less

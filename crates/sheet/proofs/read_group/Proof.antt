@@ -22,14 +22,8 @@ loop-holds : tie.Need-loop-holds Inv-loop μ-loop
 unfolding wordWhere
 loop-holds c = search needs
 
-cast-value : tie.Need-cast-value Inv-loop μ-loop
-cast-value c = search needs
-
-add-value : tie.Need-add-value Inv-loop μ-loop
-add-value c = search needs
-
-value-requires : tie.Need-value-requires Inv-loop μ-loop
-value-requires c κs = search needs
+mark-requires : tie.Need-mark-requires Inv-loop μ-loop
+mark-requires c κs = search needs
 
 with-bit-requires : tie.Need-with-bit-requires Inv-loop μ-loop
 with-bit-requires c κs = (omega arith, rw ((c .before .before .loop .inv) .1) (where-lt _ _))
@@ -44,22 +38,21 @@ loop-less : tie.Need-loop-less Inv-loop μ-loop
 loop-less c = search needs
 
 loop-again : tie.Need-loop-again Inv-loop μ-loop
-unfolding markAt
-loop-again c = let h = (c .before .before .value .ensures) in (
+loop-again c = let h = (c .before .before .mark .ensures) in (
   search needs,
   (c .before .with-bit .ensures) ∙ simp (h, (c .before .before .before .before .loop .inv) .1) (sym (word-more (λ k. eqb (markAt (c .before .before .before .before .before .before .args .line .now) k) 2) (c .before .before .before .before .loop .e))),
   (c .with-bit2 .ensures) ∙ simp (h, (c .before .before .before .before .loop .inv) .2) (sym (word-more (λ k. not (eqb (markAt (c .before .before .before .before .before .before .args .line .now) k) 0)) (c .before .before .before .before .loop .e))),
 )
 
+value-requires : tie.Need-value-requires Inv-loop μ-loop
+value-requires c κs = search needs
+
 value-requires-2 : tie.Need-value-requires-2 Inv-loop μ-loop
 value-requires-2 c κs = search needs
 
-value-requires-3 : tie.Need-value-requires-3 Inv-loop μ-loop
-value-requires-3 c κs = search needs
-
 returns : tie.Need-returns Inv-loop μ-loop
 unfolding groupFrom
-returns c = let z : (c .before .before .before .loop .e) ≡ (c .before .before .before .before .before .args .n) = omega arith in simp ((c .before .before .before .loop .inv) .1, (c .before .before .before .loop .inv) .2, (c .before .value2 .ensures), (c .value3 .ensures), z)
+returns c = let z : (c .before .before .before .loop .e) ≡ (c .before .before .before .before .before .args .n) = omega arith in simp ((c .before .before .before .loop .inv) .1, (c .before .before .before .loop .inv) .2, (c .before .value .ensures), (c .value2 .ensures), z)
 
 pub read-group-spec : {M : Type 1} → statement M
 read-group-spec =
@@ -68,14 +61,12 @@ read-group-spec =
     Inv-loop
     μ-loop
     loop-holds
-    cast-value
-    add-value
-    value-requires
+    mark-requires
     with-bit-requires
     with-bit-requires-2
     add-e
     loop-less
     loop-again
+    value-requires
     value-requires-2
-    value-requires-3
     returns)

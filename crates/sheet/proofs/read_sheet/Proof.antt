@@ -8,6 +8,7 @@ use Rattle.sheet.proofs.Reading.{Halfway, at-start, constraint-place, c
 use native.Mathlib.Omega.{arith}
 use borrow.Author.Needs.{needs}
 use borrow.Author.Tests.{lt-ltb, le-ltb, le-leb, lt-leb, eq-eqb, ne-eqb}
+use Rattle.sheet.proofs.Blanks.{promised}
 use Rattle.sheet.proofs.read_sheet.Statement.{statement}
 use Rattle.sheet.proofs.read_sheet.Tie as tie
 
@@ -22,14 +23,14 @@ refused-requires c κs = search needs
 
 returns : tie.Need-returns Inv-loop μ-loop
 unfolding readSheet
-returns c = simp (lt-ltb _ _ (c .before .if1 .taken)) (c .refused .ensures)
+returns c = promised _ _ (simp (lt-ltb _ _ (c .before .if1 .taken)) (c .refused .ensures))
 
 refused-requires-2 : tie.Need-refused-requires-2 Inv-loop μ-loop
 refused-requires-2 c κs = search needs
 
 returns-2 : tie.Need-returns-2 Inv-loop μ-loop
 unfolding readSheet
-returns-2 c = simp (le-ltb _ _ (c .before .before .if1 .left), eq-eqb _ _ (c .before .if2 .taken)) (c .refused2 .ensures)
+returns-2 c = promised _ _ (simp (le-ltb _ _ (c .before .before .if1 .left), eq-eqb _ _ (c .before .if2 .taken)) (c .refused2 .ensures))
 
 sub-if3 : tie.Need-sub-if3 Inv-loop μ-loop
 sub-if3 c = search needs
@@ -42,7 +43,7 @@ refused-requires-3 c κs = search needs
 
 returns-3 : tie.Need-returns-3 Inv-loop μ-loop
 unfolding readSheet
-returns-3 c = simp (le-ltb _ _ (c .before .before .before .before .if1 .left), ne-eqb _ _ (c .before .before .before .if2 .left), ne-eqb _ _ (c .before .if3 .taken)) (c .refused3 .ensures)
+returns-3 c = promised _ _ (simp (le-ltb _ _ (c .before .before .before .before .if1 .left), ne-eqb _ _ (c .before .before .before .if2 .left), ne-eqb _ _ (c .before .if3 .taken)) (c .refused3 .ensures))
 
 zero-requires : tie.Need-zero-requires Inv-loop μ-loop
 zero-requires c κs = search needs
@@ -76,7 +77,7 @@ refused-requires-4 c κs = search needs
 
 returns-4 : tie.Need-returns-4 Inv-loop μ-loop
 unfolding readSheet
-returns-4 c = rw (le-ltb _ _ (c .before .before .before .before .before .before .before .before .before .before .before .before .if1 .left), ne-eqb _ _ (c .before .before .before .before .before .before .before .before .before .before .before .if2 .left), eq-eqb _ _ (c .before .before .before .before .before .before .before .before .before .if3 .left)) ((c .refused4 .ensures) ∙ part-stops (c .before .before .before .before .before .before .before .before .before .before .before .before .before .before .args .sheet .now) (c .before .before .before .before .before .before .before .loop .m) (c .before .before .before .before .before .before .before .loop .done) (c .before .before .before .before .before .before .before .loop .at) (c .before .before .before .before .before .before .before .loop .inv) (c .before .before .before .before .before .before .loop-test .taken) (c .before .before .before .before .before .before .before .before .before .if3 .left) (c .before .before .before .before .line-length .result) (c .before .before .before .before .line-length .ensures) (c .before .before .line-refusal .result) (c .before .before .line-refusal .ensures) (c .before .if4 .taken))
+returns-4 c = promised _ _ (rw (le-ltb _ _ (c .before .before .before .before .before .before .before .before .before .before .before .before .if1 .left), ne-eqb _ _ (c .before .before .before .before .before .before .before .before .before .before .before .if2 .left), eq-eqb _ _ (c .before .before .before .before .before .before .before .before .before .if3 .left)) ((c .refused4 .ensures) ∙ part-stops (c .before .before .before .before .before .before .before .before .before .before .before .before .before .before .args .sheet .now) (c .before .before .before .before .before .before .before .loop .m) (c .before .before .before .before .before .before .before .loop .done) (c .before .before .before .before .before .before .before .loop .at) (c .before .before .before .before .before .before .before .loop .inv) (c .before .before .before .before .before .before .loop-test .taken) (c .before .before .before .before .before .before .before .before .before .if3 .left) (c .before .before .before .before .line-length .result) (c .before .before .before .before .line-length .ensures) (c .before .before .line-refusal .result) (c .before .before .line-refusal .ensures) (c .before .if4 .taken)))
 
 value-requires : tie.Need-value-requires Inv-loop μ-loop
 value-requires c κs = search needs
@@ -153,11 +154,11 @@ refused-requires-5 c κs = search needs
 
 returns-5 : tie.Need-returns-5 Inv-loop μ-loop
 unfolding readSheet afterLast
-returns-5 c = rw (le-ltb _ _ (c .before .before .before .before .before .before .before .before .if1 .left), ne-eqb _ _ (c .before .before .before .before .before .before .before .if2 .left), eq-eqb _ _ (c .before .before .before .before .before .if3 .left)) ((c .refused5 .ensures) ∙ sym (at-end (c .before .before .before .before .before .before .before .before .before .before .args .sheet .now) (c .before .before .before .loop .m) (c .before .before .before .loop .done) (c .before .before .before .loop .at) (c .before .before .before .loop .inv) (c .before .before .loop-test .left) ∙ rw (le-leb _ _ (c .before .if7 .taken))))
+returns-5 c = promised _ _ (rw (le-ltb _ _ (c .before .before .before .before .before .before .before .before .if1 .left), ne-eqb _ _ (c .before .before .before .before .before .before .before .if2 .left), eq-eqb _ _ (c .before .before .before .before .before .if3 .left)) ((c .refused5 .ensures) ∙ sym (at-end (c .before .before .before .before .before .before .before .before .before .before .args .sheet .now) (c .before .before .before .loop .m) (c .before .before .before .loop .done) (c .before .before .before .loop .at) (c .before .before .before .loop .inv) (c .before .before .loop-test .left) ∙ rw (le-leb _ _ (c .before .if7 .taken)))))
 
 returns-6 : tie.Need-returns-6 Inv-loop μ-loop
 unfolding readSheet afterLast
-returns-6 c = rw (le-ltb _ _ (c .before .before .before .before .before .before .before .if1 .left), ne-eqb _ _ (c .before .before .before .before .before .before .if2 .left), eq-eqb _ _ (c .before .before .before .before .if3 .left)) (sym (at-end (c .before .before .before .before .before .before .before .before .before .args .sheet .now) (c .before .before .loop .m) (c .before .before .loop .done) (c .before .before .loop .at) (c .before .before .loop .inv) (c .before .loop-test .left) ∙ rw (lt-leb _ _ (c .if7 .left))))
+returns-6 c = promised _ _ (rw (le-ltb _ _ (c .before .before .before .before .before .before .before .if1 .left), ne-eqb _ _ (c .before .before .before .before .before .before .if2 .left), eq-eqb _ _ (c .before .before .before .before .if3 .left)) (sym (at-end (c .before .before .before .before .before .before .before .before .before .args .sheet .now) (c .before .before .loop .m) (c .before .before .loop .done) (c .before .before .loop .at) (c .before .before .loop .inv) (c .before .loop-test .left) ∙ rw (lt-leb _ _ (c .if7 .left)))))
 
 pub read-sheet-spec : {M : Type 1} → statement M
 read-sheet-spec =

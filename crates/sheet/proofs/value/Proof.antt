@@ -1,5 +1,10 @@
 -- `value` gives the number in a field of a line. Assumes nothing.
-use Rattle.model.specs.Sheet.{valueAt}
+use Prim.Native.Nat.{ℕ}
+use mathlib.Core.Path.{sym, ap, _∙_}
+use mathlib.Core.Bool.{false}
+use mathlib.Core.List.{List}
+use Rattle.model.specs.declared.Digits.{Digits}
+use Rattle.model.specs.Sheet.{fieldValue, digitsValue, fieldNumber, orZero, valueAt}
 use borrow.Author.Needs.{needs}
 use Rattle.sheet.proofs.value.Statement.{statement}
 use Rattle.sheet.proofs.value.Tie as tie
@@ -7,8 +12,8 @@ use Rattle.sheet.proofs.value.Tie as tie
 field-requires : tie.Need-field-requires
 field-requires c κs = search needs
 
-number-requires : tie.Need-number-requires
-number-requires c κs = search needs
+number-in-requires : tie.Need-number-in-requires
+number-in-requires c κs = search needs
 
 enum-known-v : tie.Need-enum-known-v
 enum-known-v c = search needs
@@ -18,12 +23,17 @@ enum-told c = search needs
 
 returns : tie.Need-returns
 unfolding valueAt
-returns c = simp (← (c .before .before .before .field .ensures), ← (c .before .before .number .ensures .0), (c .enum-told .given .1))
+returns c =
+    ap (λ (d : Digits). orZero (digitsValue d)) (sym (c .enum-told .given .1))
+    ∙ c .before .before .number-in .ensures .1
+    ∙ ap (λ (f : List ℕ). fieldNumber (fieldValue f) false) (c .before .before .before .field .ensures)
 
 returns-2 : tie.Need-returns-2
 unfolding valueAt
-returns-2 c = simp (← (c .before .before .before .before .field .ensures), ← (c .before .before .before .number .ensures .0), (c .before .v .given .1))
+returns-2 c =
+    ap (λ (d : Digits). orZero (digitsValue d)) (sym (c .before .v .given .1))
+    ∙ c .before .before .before .number-in .ensures .1
+    ∙ ap (λ (f : List ℕ). fieldNumber (fieldValue f) false) (c .before .before .before .before .field .ensures)
 
 pub value-spec : {M : Type 1} → statement M
-value-spec =
-    tie.close (tie.spec field-requires number-requires enum-known-v enum-told returns returns-2)
+value-spec = tie.close (tie.spec field-requires number-in-requires enum-known-v enum-told returns returns-2)
