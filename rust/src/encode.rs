@@ -194,10 +194,26 @@ fn node_clauses(c: Child, d: Child, own: i32, p: i32, q: i32, visit: &mut impl F
 #[cfg(test)]
 mod tests {
     use super::*;
+    use crate::steps::{tree, Outputs};
 
     #[test]
     fn examples_g_and_h() {
         assert_eq!((tree_clauses(3), tree_outputs(3)), (16, 5));
         assert_eq!((tree_clauses(32), tree_outputs(32)), (1_312, 160));
+    }
+
+    #[test]
+    fn the_clauses_are_those_of_the_printed_steps() {
+        for size in 2..=64 {
+            let (leaf, first) = (100, 1_000);
+            let (mut next, mut clauses) = (first, Vec::new());
+            node(leaf, size, &mut next, &mut |clause| clauses.push(clause.to_vec()));
+            let mut steps = Vec::new();
+            for node in tree(Outputs { first: leaf, size }, first) {
+                steps.extend(node.places().flat_map(|(p, q)| node.clauses(p, q)));
+            }
+            assert_eq!(clauses.len(), tree_clauses(size));
+            assert_eq!(clauses, steps, "tree of {size}");
+        }
     }
 }

@@ -13,4 +13,5 @@ pub mod proved;
 pub mod refusal;
 pub mod settle;
 pub mod sheet;
+pub mod steps;
 pub mod words;

@@ -21,7 +21,9 @@ use Rattle.model.specs.Text.{blockText, hasEmptyClause, blockRefusal, writtenBl
 use Rattle.model.proofs.Lists.{T-false, true-T}
 use Rattle.model.proofs.Refusals.{settled-rest, rest-settled, unsettled-first}
 use Rattle.propagation_laws.proofs.Ranges.{in-range}
+use Rattle.encoding_laws.specs.Steps.{BySteps}
 use Rattle.encoding_laws.proofs.Nonempty.{no-empty-clause}
+use Rattle.encoding_laws.proofs.Steps.{by-steps}
 use Rattle.text.specs.Put.{Wrote}
 use Rattle.blocks.specs.Blocks.{judgement}
 use Rattle.cnf.specs.Parts.{blockLength}
@@ -144,3 +146,12 @@ written-means m b room r e = go (blockRefusal m b room) (e)
     go (suc x) q =
         let p : r ≡ Refused (suc x) = rw (eqb·suc-zero x) at q in
         (ap writtenRefusal p, ap writtenLength p ∙ rw (eqb·suc-zero x))
+
+-- ---- a written block, place by place
+
+pub written-by-steps : (m : Model) (b : ℕ) (before after : List ℕ) (r : Written) → r ≡ writtenBlock m b (length before) → after ≡ blockBuffer m b before
+    → writtenRefusal r ≡ 0 → BySteps m b after
+unfolding blockBuffer
+written-by-steps m b before after r e h z =
+    let q = sym (written-means m b (length before) r e .0) ∙ z in
+    subst (BySteps m b) (sym (h ∙ rw q)) (by-steps m b (drop (length (blockText m b)) before))

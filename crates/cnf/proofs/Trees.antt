@@ -8,42 +8,35 @@ use native.Mathlib.Omega.{arith}
 use lib.ListN.{length, length-append}
 use Rattle.model.specs.declared.Literal.{Literal}
 use Rattle.model.specs.declared.Literal.the-variants.{Pos, Neg}
-use Rattle.model.specs.declared.Term.{Term}
+use Rattle.model.specs.declared.Node.{Node}
 use Rattle.model.specs.declared.Term.the-variants.{Fails, Open}
 use Rattle.model.specs.Lists.{each, range}
-use Rattle.model.specs.Totalizer.{Output, Shape, keep, up, down, formed, putIn, nodeClauses, shape, rootOutput, treeClauses, unit, unitClauses, totalizerClauses, treeOutputCount}
+use Rattle.model.specs.Totalizer.{Shape, keep, dropped, rowClauses, nodeClauses, shape, rootOutput, nodes, treeClauses, unit, unitClauses, totalizerClauses, treeOutputCount}
 use Rattle.model.specs.Text.{clauseText}
 use Rattle.model.proofs.Lists.{each-append, each-each, each-map, each-range-ext}
 use Rattle.encoding_laws.proofs.Totalizer.{tree-step, root-step, shape-one}
 use Rattle.encoding_laws.proofs.Counts.{outputs-count, output-count-step}
-use Rattle.cnf.specs.declared.totalizer.Node.{Node}
-use Rattle.cnf.specs.Parts.{outputText, pairText, rowText, nodeText, treeText, signed, unitText, Among, Small}
+use Rattle.cnf.specs.Parts.{pairText, rowText, nodeText, treeText, signed, unitText, Among, Small}
 use Rattle.text.specs.Put.{keptText}
 
 -- ---- a node
 
-node-text : (t : Node) → each clauseText (nodeClauses (t .c) (t .left) (t .d) (t .right) (t .own)) ≡ nodeText t
-unfolding nodeClauses formed nodeText rowText pairText outputText keptText
+node-text : (t : Node) → each clauseText (nodeClauses t) ≡ nodeText t
+unfolding nodeClauses rowClauses nodeText rowText pairText
 node-text t =
-    each-each clauseText (λ f. keep (map put f)) (formed (t .left) (t .right))
-    ∙ each-each (outputText t) (λ p. each (λ q. up p q ∷ down p q ∷ []) (range 0 (suc (t .right)))) (range 0 (suc (t .left)))
-    ∙ each-range-ext (λ p. each (outputText t) (each (λ q. up p q ∷ down p q ∷ []) (range 0 (suc (t .right))))) (rowText t) 0 (suc (t .left)) (λ p _ _. row p)
-    ∙ ap (λ (k : ℕ). each (rowText t) (range 0 k)) (sym (add-one (t .left)))
+    each-each clauseText (rowClauses t) (range 0 (suc (t .a)))
+    ∙ each-range-ext (λ p. each clauseText (rowClauses t p)) (rowText t) 0 (suc (t .a)) (λ p _ _. row p)
+    ∙ ap (λ (k : ℕ). each (rowText t) (range 0 k)) (sym (add-one (t .a)))
   where
-    put : Output → Term
-    put = putIn (t .c) (t .left) (t .d) (t .right) (t .own)
-
-    row : (p : ℕ) → each (outputText t) (each (λ q. up p q ∷ down p q ∷ []) (range 0 (suc (t .right)))) ≡ rowText t p
+    row : (p : ℕ) → each clauseText (rowClauses t p) ≡ rowText t p
     row p =
-        each-each (outputText t) (λ q. up p q ∷ down p q ∷ []) (range 0 (suc (t .right)))
-        ∙ each-range-ext (λ q. each (outputText t) (up p q ∷ down p q ∷ [])) (pairText t p) 0 (suc (t .right))
-        (λ q _ _. ap (λ (l : List ℕ). outputText t (up p q) ++ l) (append-nil (outputText t (down p q))))
-        ∙ ap (λ (k : ℕ). each (pairText t p) (range 0 k)) (sym (add-one (t .right)))
+        each-each clauseText (dropped t p) (range 0 (suc (t .b)))
+        ∙ ap (λ (k : ℕ). each (pairText t p) (range 0 k)) (sym (add-one (t .b)))
 
 -- ---- the tree
 
 pub tree-one : (m v o : ℕ) → m < 2 → treeText m v o ≡ []
-unfolding treeText treeClauses
+unfolding treeText treeClauses nodes
 tree-one m v o h = ap (λ (s : Shape). each clauseText (treeClauses s v o)) (shape-one m (omega arith))
 
 pub root-one : (m v o : ℕ) → m < 2 → rootOutput (shape m) v o ≡ v
@@ -57,8 +50,8 @@ root-among (suc zero) v o h x y = omega (arith, root-one 1 v o (omega arith))
 root-among (suc (suc m)) v o h x y = omega (arith, root-more (suc (suc m)) v o (omega arith))
 
 -- the node over the halves of m
-abbrev nodeOf : (m c d own : ℕ) → Node
-nodeOf m c d own = record { c = c; left = m / 2; d = d; right = m - m / 2; own = own }
+abbrev nodeOf : (m c d n : ℕ) → Node
+nodeOf m c d n = record { c = c; a = m / 2; d = d; b = m - m / 2; n = n }
 
 module _ (m v o p own c d : ℕ) (h : 2 ≤ m) (hp : p ≡ o + treeOutputCount (m / 2)) (hown : own ≡ p + treeOutputCount (m - m / 2))
     (hc : c ≡ rootOutput (shape (m / 2)) v o) (hd : d ≡ rootOutput (shape (m - m / 2)) (v + m / 2) p) where
@@ -69,7 +62,7 @@ module _ (m v o p own c d : ℕ) (h : 2 ≤ m) (hp : p ≡ o + treeOutputCount (
       let b = outputs-count (m - m / 2) in
       ap (each clauseText) (tree-step m v o h)
       ∙ rw (a, b, ← hp, ← hown, ← hc, ← hd)
-      (each-append clauseText (treeClauses (shape (m / 2)) v o ++ treeClauses (shape (m - m / 2)) (v + m / 2) p) (nodeClauses c (m / 2) d (m - m / 2) own)
+      (each-append clauseText (treeClauses (shape (m / 2)) v o ++ treeClauses (shape (m - m / 2)) (v + m / 2) p) (nodeClauses (nodeOf m c d own))
       ∙ ap₂ (λ (x y : List ℕ). x ++ y) (each-append clauseText (treeClauses (shape (m / 2)) v o) (treeClauses (shape (m - m / 2)) (v + m / 2) p))
       (node-text (nodeOf m c d own)))
 

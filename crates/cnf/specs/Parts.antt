@@ -1,36 +1,43 @@
 -- The parts that the block writer's functions write, as texts of the definitions' clauses. Assumes nothing.
 use Prim.Native.Nat.{ℕ, suc, _+_, _≤_}
 use mathlib.Core.Bool.{Bool, true, false, cond}
-use mathlib.Core.List.{List, [], _++_, map}
+use mathlib.Core.List.{List, [], _∷_, map}
 use lib.Dec.{eqb}
 use lib.ListN.{length}
 use Rattle.model.specs.declared.Literal.{Literal}
 use Rattle.model.specs.declared.Literal.the-variants.{Pos, Neg}
+use Rattle.model.specs.declared.Term.{Term}
+use Rattle.model.specs.declared.Node.{Node}
 use Rattle.model.specs.declared.Group.{Group}
 use Rattle.model.specs.declared.Model.{Model}
 use Rattle.model.specs.Lists.{each, range}
 use Rattle.model.specs.Limits.{limits}
 use Rattle.model.specs.Clauses.{memberClauses}
 use Rattle.model.specs.Cnf.{openCount, atLeast, atMost, counted}
-use Rattle.model.specs.Totalizer.{Output, up, down, putIn, shape, treeClauses, unit, totalizerClauses}
+use Rattle.model.specs.Totalizer.{dropped, shape, treeClauses, unit, totalizerClauses}
 use Rattle.model.specs.Text.{clauseText, blockText, blockRefusal}
 use Rattle.terms.specs.declared.Member.{Member}
 use Rattle.text.specs.Put.{keptText}
 use Rattle.terms.specs.Terms.{memberNumber, clauseTerms}
-use Rattle.cnf.specs.declared.totalizer.Node.{Node}
+use Rattle.cnf.specs.declared.totalizer.Terms.{Terms}
 
--- the clause of these outputs of a node
-unfoldable pub outputText : Node → List Output → List ℕ
-outputText t f = keptText (map (putIn (t .c) (t .left) (t .d) (t .right) (t .own)) f)
+-- ---- a node
 
+-- a clause that is put in
+abbrev pub termsOf : Terms → List Term
+termsOf x = x .c ∷ x .d ∷ x .n ∷ []
+
+-- the text of what the steps leave at p and q, of a row, of the node
 unfoldable pub pairText : Node → ℕ → ℕ → List ℕ
-pairText t p q = outputText t (up p q) ++ outputText t (down p q)
+pairText t p q = each clauseText (dropped t p q)
 
 unfoldable pub rowText : Node → ℕ → List ℕ
-rowText t p = each (pairText t p) (range 0 (t .right + 1))
+rowText t p = each (pairText t p) (range 0 (t .b + 1))
 
 unfoldable pub nodeText : Node → List ℕ
-nodeText t = each (rowText t) (range 0 (t .left + 1))
+nodeText t = each (rowText t) (range 0 (t .a + 1))
+
+-- ---- the tree and its units
 
 unfoldable pub treeText : ℕ → ℕ → ℕ → List ℕ
 treeText m v o = each clauseText (treeClauses (shape m) v o)
@@ -62,9 +69,9 @@ Among first k = first + k ≤ suc (limits .variables)
 
 -- a node whose outputs are
 pub record Small (t : Node) : Type 0 where
-  pub lefts : Among (t .c) (t .left)
-  pub rights : Among (t .d) (t .right)
-  pub owns : Among (t .own) (t .left + t .right)
+  pub lefts : Among (t .c) (t .a)
+  pub rights : Among (t .d) (t .b)
+  pub owns : Among (t .n) (t .a + t .b)
 
 -- ---- a model that may be listed
 

@@ -11,6 +11,7 @@ ghost use Rattle.model.specs.Cnf.{openCount, outputsOf, constraintClauses, bloc
 ghost use Rattle.model.specs.Model.{constraintInRange};
 ghost use Rattle.model.specs.Propagate.{Settled};
 ghost use Rattle.model.proofs.Lists.{All};
+ghost use Rattle.encoding_laws.specs.Steps.{BySteps};
 ghost use Rattle.encoding_laws.proofs.Fixpoint.{SettledAmong};
 ghost use Rattle.model.specs.Text.{clauseText, headerText, blockText, blockRefusal, writtenBlock, writtenRefusal, writtenLength, blockBuffer};
 ghost use Rattle.numbering.specs.Numbering.{firstVariables, numberingOf};
@@ -180,11 +181,12 @@ fn write_settled(m: Model, b: u32, buf: &mut [u8]) -> Written
     Written::Bytes(n)
 }
 
-// Block b in buf, from its start: refusals 20, 22, 23 and 24 in this order. 29 cannot occur after 22.
+// Block b in buf, from its start: refusals 20, 22, 23 and 24 in this order. 29 cannot occur after 22. A written block has at each node, p and q what the printed steps leave there.
 pub fn write_block(m: Model, b: u32, buf: &mut [u8]) -> Written
     ensures { λ r. ⌜ r ≡ writtenBlock m b (length (now (buf .entry))) ⌝ }
     ensures { λ r. ⌜ now (buf .exit) ≡ blockBuffer m b (now (buf .entry)) ⌝ }
     ensures { λ r. ⌜ (writtenRefusal r ≡ blockRefusal m b (length (now (buf .entry)))) × (writtenLength r ≡ blockLength m b (length (now (buf .entry)))) ⌝ }
+    ensures { λ r. ⌜ (writtenRefusal r ≡ 0 → BySteps m b (now (buf .exit))) ⌝ }
 {
     let refusal = blocks::judged(m, b);
     if refusal != 0 {

@@ -5,12 +5,35 @@ ghost use Prim.Native.Nat.{_+_, _≤_};
 ghost use lib.ListN.{length};
 ghost use Rattle.model.specs.Lists.{each, range};
 ghost use Rattle.model.specs.Limits.{limits};
-ghost use Rattle.model.specs.Totalizer.{output, shape, rootOutput, up, down, totalizerClauses, treeOutputCount};
+ghost use Rattle.model.specs.Totalizer.{formed, output, outputTerm, nodeTerms, shape, rootOutput, totalizerClauses, treeOutputCount};
 ghost use Rattle.model.specs.Text.{clauseText};
-ghost use Rattle.text.specs.Put.{Wrote};
-ghost use Rattle.cnf.specs.Parts.{outputText, rowText, nodeText, treeText, signed, unitText, Among, Small};
+ghost use Rattle.text.specs.Put.{Wrote, keptText};
+ghost use Rattle.cnf.specs.Parts.{termsOf, rowText, nodeText, treeText, signed, unitText, Among, Small};
+use model::Formed;
 use model::Literal;
+use model::Node;
+use model::Printed;
 use model::Term;
+
+// ---- a node's clauses, by the steps of document 001, section 6.4: formed, put in, dropped
+
+// First step: both clauses of p and q.
+fn form(p: u32, q: u32) -> Formed
+    requires { ⌜ p + q ≤ limits .variables + 1 ⌝ }
+    ensures { λ r. ⌜ r ≡ formed p q ⌝ }
+{
+    let up = Printed {
+        c: Literal::Neg(p),
+        d: Literal::Neg(q),
+        n: Literal::Pos(p + q),
+    };
+    let down = Printed {
+        c: Literal::Pos(p + 1),
+        d: Literal::Pos(q + 1),
+        n: Literal::Neg(p + q + 1),
+    };
+    Formed { up, down }
+}
 
 // Output i of size outputs, numbered from first on: 0 is true, one above the size false.
 fn output(first: u32, size: u32, i: u32) -> Term
@@ -26,64 +49,74 @@ fn output(first: u32, size: u32, i: u32) -> Term
     Term::Fails
 }
 
-// A node of the tree: the first output and the size of its left half, of its right half, and its own first output.
-struct Node {
-    c: u32,
-    left: u32,
-    d: u32,
-    right: u32,
-    own: u32,
+fn output_term(first: u32, size: u32, l: Literal) -> Term
+    requires { ⌜ Among first size ⌝ }
+    ensures { λ r. ⌜ r ≡ outputTerm first size l ⌝ }
+{
+    match l {
+        Literal::Pos(i) => output(first, size, i),
+        Literal::Neg(i) => terms::opposite(output(first, size, i)),
+    }
 }
 
-fn put_up(buf: &mut [u8], at: usize, t: Node, p: u32, q: u32) -> usize
-    requires { ⌜ Small t ⌝ }
-    requires { ⌜ (p ≤ t .left) × (q ≤ t .right) ⌝ }
-    requires { ⌜ at + length (outputText t (up p q)) ≤ length (now buf) ⌝ }
-    ensures { λ r. ⌜ Wrote (outputText t (up p q)) at (now (buf .entry)) (now (buf .exit)) r ⌝ }
-{
-    let x = terms::opposite(output(t.c, t.left, p));
-    let y = terms::opposite(output(t.d, t.right, q));
-    let z = output(t.own, t.left + t.right, p + q);
-    text::put_three(buf, at, x, y, z)
+struct Terms {
+    c: Term,
+    d: Term,
+    n: Term,
 }
 
-fn put_down(buf: &mut [u8], at: usize, t: Node, p: u32, q: u32) -> usize
+// Second step: a clause with true and false put in.
+fn put_in(t: Node, f: Printed) -> Terms
     requires { ⌜ Small t ⌝ }
-    requires { ⌜ (p ≤ t .left) × (q ≤ t .right) ⌝ }
-    requires { ⌜ at + length (outputText t (down p q)) ≤ length (now buf) ⌝ }
-    ensures { λ r. ⌜ Wrote (outputText t (down p q)) at (now (buf .entry)) (now (buf .exit)) r ⌝ }
+    ensures { λ r. ⌜ termsOf r ≡ nodeTerms t f ⌝ }
 {
-    let c = output(t.c, t.left, p + 1);
-    let d = output(t.d, t.right, q + 1);
-    let n = terms::opposite(output(t.own, t.left + t.right, p + q + 1));
+    let c = f.c;
+    let d = f.d;
+    let n = f.n;
+    Terms {
+        c: output_term(t.c, t.a, c),
+        d: output_term(t.d, t.b, d),
+        n: output_term(t.n, t.a + t.b, n),
+    }
+}
+
+// Third step: a clause with a true literal is left out, a false literal dropped; what is left is written.
+fn put_dropped(buf: &mut [u8], at: usize, x: Terms) -> usize
+    requires { ⌜ at + length (keptText (termsOf x)) ≤ length (now buf) ⌝ }
+    ensures { λ r. ⌜ Wrote (keptText (termsOf x)) at (now (buf .entry)) (now (buf .exit)) r ⌝ }
+{
+    let c = x.c;
+    let d = x.d;
+    let n = x.n;
     text::put_three(buf, at, c, d, n)
 }
 
-// The clauses of one p, for q = 0..right.
+// The clauses of one p, for q = 0..b.
 fn put_row(buf: &mut [u8], at: usize, t: Node, p: u32) -> usize
     requires { ⌜ Small t ⌝ }
-    requires { ⌜ p ≤ t .left ⌝ }
+    requires { ⌜ p ≤ t .a ⌝ }
     requires { ⌜ at + length (rowText t p) ≤ length (now buf) ⌝ }
     ensures { λ r. ⌜ Wrote (rowText t p) at (now (buf .entry)) (now (buf .exit)) r ⌝ }
 {
-    let end = t.right + 1;
+    let end = t.b + 1;
     let mut n = at;
     let mut q = 0;
     while q < end {
-        let k = put_up(buf, n, t, p, q);
-        n = put_down(buf, k, t, p, q);
+        let f = form(p, q);
+        let k = put_dropped(buf, n, put_in(t, f.up));
+        n = put_dropped(buf, k, put_in(t, f.down));
         q += 1;
     }
     n
 }
 
-// The node's clauses, for p = 0..left.
+// The node's clauses, for p = 0..a.
 fn put_node(buf: &mut [u8], at: usize, t: Node) -> usize
     requires { ⌜ Small t ⌝ }
     requires { ⌜ at + length (nodeText t) ≤ length (now buf) ⌝ }
     ensures { λ r. ⌜ Wrote (nodeText t) at (now (buf .entry)) (now (buf .exit)) r ⌝ }
 {
-    let end = t.left + 1;
+    let end = t.a + 1;
     let mut n = at;
     let mut p = 0;
     while p < end {
@@ -93,13 +126,7 @@ fn put_node(buf: &mut [u8], at: usize, t: Node) -> usize
     n
 }
 
-// The outputs of a tree of size m.
-fn output_count(m: u32) -> u32
-    requires { ⌜ m ≤ limits .word ⌝ }
-    ensures { λ r. ⌜ r ≡ treeOutputCount m ⌝ }
-{
-    numbering::output_count(m)
-}
+// ---- the tree
 
 // The first output of a tree's root, where its leaves start at v and its outputs at o.
 fn root(m: u32, v: u32, o: u32) -> u32
@@ -109,7 +136,7 @@ fn root(m: u32, v: u32, o: u32) -> u32
     if m < 2 {
         return v;
     }
-    o + output_count(m) - m
+    o + numbering::output_count(m) - m
 }
 
 // The tree of size m: left half, right half, then the node itself.
@@ -124,21 +151,17 @@ fn put_tree(buf: &mut [u8], at: usize, m: u32, v: u32, o: u32) -> usize
     let a = m / 2;
     let b = m - a;
     let w = v + a;
-    let p = o + output_count(a);
-    let own = p + output_count(b);
+    let p = o + numbering::output_count(a);
+    let n = p + numbering::output_count(b);
     let c = root(a, v, o);
     let d = root(b, w, p);
     let x = put_tree(buf, at, a, v, o);
     let y = put_tree(buf, x, b, w, p);
-    let t = Node {
-        c,
-        left: a,
-        d,
-        right: b,
-        own,
-    };
+    let t = Node { c, a, d, b, n };
     put_node(buf, y, t)
 }
+
+// ---- the units
 
 // The clause of one literal.
 fn put_unit(buf: &mut [u8], at: usize, positive: bool, v: u32) -> usize

@@ -13,6 +13,7 @@ use Rattle.model.specs.declared.Literal.{Literal}
 use Rattle.model.specs.declared.Literal.the-variants.{Pos, Neg}
 use Rattle.model.specs.declared.Term.{Term}
 use Rattle.model.specs.declared.Term.the-variants.{Holds, Fails, Open}
+use Rattle.model.specs.declared.Node.{Node}
 use Rattle.model.specs.declared.Group.{Group}
 use Rattle.model.specs.declared.Constraint.{Constraint}
 use Rattle.model.specs.declared.Model.{Model}
@@ -21,7 +22,7 @@ use Rattle.model.specs.Limits.{limits}
 use Rattle.model.specs.Clauses.{shortClauses, unionClauses, memberClauses, ofGroup, clausesOf}
 use Rattle.model.specs.Model.{zeroGroup, zeroConstraint, groupAt, tableOf, constraintsOf, constraintInRange}
 use Rattle.model.specs.Propagate.{Settled}
-use Rattle.model.specs.Totalizer.{holds, literals, keep, up, down, formed, putIn, nodeClauses, Shape, leaf, node, shape, leaves, outputs, rootOutput, treeClauses, unit, unitClauses, totalizerClauses, clauseCountIn, treeClauseCount, outputCountIn, treeOutputCount}
+use Rattle.model.specs.Totalizer.{holds, literals, keep, formed, nodeTerms, putIn, dropped, rowClauses, nodeClauses, Shape, shape, rootOutput, nodes, treeClauses, unit, unitClauses, totalizerClauses, clauseCountIn, treeClauseCount, outputCountIn, treeOutputCount}
 use Rattle.model.specs.Cnf.{openOf, openCount, atLeast, atMost, counted, outputsOf, firstVariable, firstOutput, tableVariables, variableCount, groupClauses, termOf, clausesAt, constraintClauses, blockClauses, groupClauseCount, clauseCount}
 use Rattle.model.specs.Text.{decimal, literalText, clauseText, headerText, blockText}
 use Rattle.model.specs.Assignment.{variable}
@@ -211,31 +212,25 @@ keep-three ts h = go (any holds ts)
     go true = tt
     go false = (omega (arith, literals-length ts), tt)
 
-formed-three : (a b : ℕ) → All (λ f. length f ≤ 3) (formed a b)
-unfolding formed up down
-formed-three a b =
-    all-each (λ f. length f ≤ 3) (λ p. each (λ q. up p q ∷ down p q ∷ []) (range 0 (suc b))) (range 0 (suc a))
-    (all-of (λ p. All (λ f. length f ≤ 3) (each (λ q. up p q ∷ down p q ∷ []) (range 0 (suc b))))
-    (λ p. all-each (λ f. length f ≤ 3) (λ q. up p q ∷ down p q ∷ []) (range 0 (suc b))
-    (all-of (λ q. All (λ f. length f ≤ 3) (up p q ∷ down p q ∷ [])) (λ q. (omega arith, (omega arith, tt))) (range 0 (suc b)))) (range 0 (suc a)))
+dropped-three : (t : Node) (p q : ℕ) → All Three (dropped t p q)
+unfolding dropped putIn nodeTerms
+dropped-three t p q =
+    all-each Three keep (putIn t p q) (
+      keep-three (nodeTerms t (formed p q .up)) (omega arith),
+      (keep-three (nodeTerms t (formed p q .down)) (omega arith), tt),
+    )
 
-node-three : (c a d b o : ℕ) → All Three (nodeClauses c a d b o)
-unfolding nodeClauses
-node-three c a d b o =
-    all-each Three (λ f. keep (map (putIn c a d b o) f)) (formed a b)
-    (all-imp (λ f. length f ≤ 3) (λ f. All Three (keep (map (putIn c a d b o) f)))
-    (λ f h. keep-three (map (putIn c a d b o) f) (omega (arith, length-map f (putIn c a d b o)))) (formed a b) (formed-three a b))
+node-three : (t : Node) → All Three (nodeClauses t)
+unfolding nodeClauses rowClauses
+node-three t =
+    all-each Three (rowClauses t) (range 0 (suc (t .a)))
+    (all-of (λ p. All Three (rowClauses t p))
+    (λ p. all-each Three (dropped t p) (range 0 (suc (t .b))) (all-of (λ q. All Three (dropped t p q)) (dropped-three t p) (range 0 (suc (t .b)))))
+    (range 0 (suc (t .a))))
 
 tree-three : (s : Shape) (v o : ℕ) → All Three (treeClauses s v o)
 unfolding treeClauses
-tree-three leaf v o = tt
-tree-three (node l r) v o =
-    let w : ℕ = v + leaves l in
-    let k : ℕ = o + outputs l in
-    all-both Three (treeClauses l v o ++ treeClauses r w k) (nodeClauses (rootOutput l v o) (leaves l) (rootOutput r w k) (leaves r) (k + outputs r)) .1 (
-      all-both Three (treeClauses l v o) (treeClauses r w k) .1 (tree-three l v o, tree-three r w k),
-      node-three (rootOutput l v o) (leaves l) (rootOutput r w k) (leaves r) (k + outputs r),
-    )
+tree-three s v o = all-each Three nodeClauses (nodes s v o) (all-of (λ t. All Three (nodeClauses t)) node-three (nodes s v o))
 
 group-three : (t : List Group) (g : ℕ) → All Three (groupClauses t g)
 unfolding groupClauses totalizerClauses unitClauses unit

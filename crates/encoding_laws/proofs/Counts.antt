@@ -13,13 +13,16 @@ use Rattle.model.specs.declared.Literal.{Literal}
 use Rattle.model.specs.declared.Literal.the-variants.{Pos, Neg}
 use Rattle.model.specs.declared.Term.{Term}
 use Rattle.model.specs.declared.Term.the-variants.{Holds, Fails, Open}
+use Rattle.model.specs.declared.Printed.{Printed}
+use Rattle.model.specs.declared.Node.{Node}
 use Rattle.model.specs.declared.Group.{Group}
-use Rattle.model.specs.Lists.{each, total, range}
+use Rattle.model.specs.Lists.{total, range}
 use Rattle.model.specs.Model.{groupAt}
-use Rattle.model.specs.Totalizer.{oppositeTerm, holds, literals, keep, Output, up, down, formed, output, putIn, nodeClauses, Shape, node, shapeIn, shape, leaves, outputs, rootOutput, treeClauses, unit, unitClauses, totalizerClauses, clauseCountIn, treeClauseCount, outputCountIn, treeOutputCount}
+use Rattle.model.specs.Totalizer.{oppositeTerm, holds, literals, keep, up, down, formed, output, nodeTerms, putIn, dropped, rowClauses, nodeClauses, Shape, node, shapeIn, shape, leaves, outputs, rootOutput, nodeOver, nodes, treeClauses, unit, unitClauses, totalizerClauses, clauseCountIn, treeClauseCount, outputCountIn, treeOutputCount}
 use Rattle.model.specs.Cnf.{openCount, atLeast, atMost, counted, firstVariable, firstOutput, groupClauses, groupClauseCount}
-use Rattle.model.proofs.Lists.{T-true, T-false, length-each, each-each, range-length, total-ext, total-add, total-const, total-but-one}
+use Rattle.model.proofs.Lists.{T-true, T-false, length-each, range-length, total-ext, total-add, total-const, total-but-one}
 use Rattle.encoding_laws.proofs.Node.{output-in, output-out}
+use Rattle.encoding_laws.proofs.Tree.{tree-node}
 use Rattle.encoding_laws.proofs.Totalizer.{shapeIn-step, shapeIn-one, leaves-shapeIn, leaves-shape, shape-step}
 
 -- ---- a node: every clause but two is kept
@@ -58,9 +61,9 @@ square f m n k l hk hl z h =
     (total-but-one (f k) 1 l 0 n (omega arith) (omega arith) (ap suc z) (λ j a b d. h k j (omega arith) (omega arith) (λ _ e. d e)) ∙ omega arith)
     (λ j a b d. total-const (f j) 1 0 n (λ i a′ b′. h j i (omega arith) (omega arith) (λ e _. d e)) ∙ omega arith)
 
-module _ (c a d b o : ℕ) where
-  keptOf : List Output → List (List Literal)
-  keptOf f = keep (map (putIn c a d b o) f)
+module _ (t : Node) where
+  keptOf : Printed → List (List Literal)
+  keptOf f = keep (nodeTerms t f)
 
   ups : ℕ → ℕ → ℕ
   ups p q = length (keptOf (up p q))
@@ -68,56 +71,56 @@ module _ (c a d b o : ℕ) where
   downs : ℕ → ℕ → ℕ
   downs p q = length (keptOf (down p q))
 
-  ups-count : suc (total (λ p. total (ups p) (range 0 (suc b))) (range 0 (suc a))) ≡ suc a * suc b
-  unfolding ups keptOf up putIn
+  ups-count : suc (total (λ p. total (ups p) (range 0 (suc (t .b)))) (range 0 (suc (t .a)))) ≡ suc (t .a) * suc (t .b)
+  unfolding ups keptOf nodeTerms up
   ups-count =
-      square ups (suc a) (suc b) 0 0 (omega arith) (omega arith) (left-out Fails Fails)
-      (λ p q hp hq ne. kept (oppositeTerm (output c a p)) (oppositeTerm (output d b q)) (output o (a + b) (p + q))
-      (loose-not c a p (omega arith)) (loose-not d b q (omega arith)) (loose o (a + b) (p + q) (pos p q ne)))
+      square ups (suc (t .a)) (suc (t .b)) 0 0 (omega arith) (omega arith) (left-out Fails Fails)
+      (λ p q hp hq ne. kept (oppositeTerm (output (t .c) (t .a) p)) (oppositeTerm (output (t .d) (t .b) q)) (output (t .n) (t .a + t .b) (p + q))
+      (loose-not (t .c) (t .a) p (omega arith)) (loose-not (t .d) (t .b) q (omega arith)) (loose (t .n) (t .a + t .b) (p + q) (pos p q ne)))
     where
       pos : (p q : ℕ) → (p ≡ 0 → q ≡ 0 → ⊥) → 1 ≤ p + q
       pos zero zero h = absurd (h refl refl)
       pos zero (suc q) h = omega arith
       pos (suc p) q h = omega arith
 
-  downs-count : suc (total (λ p. total (downs p) (range 0 (suc b))) (range 0 (suc a))) ≡ suc a * suc b
-  unfolding downs keptOf down putIn
+  downs-count : suc (total (λ p. total (downs p) (range 0 (suc (t .b)))) (range 0 (suc (t .a)))) ≡ suc (t .a) * suc (t .b)
+  unfolding downs keptOf nodeTerms down
   downs-count =
-      square downs (suc a) (suc b) a b (omega arith) (omega arith)
-      (rw (output-out o (a + b) (a + b) (le-refl (a + b))) (left-out (output c a (suc a)) (output d b (suc b))))
-      (λ p q hp hq ne. kept (output c a (suc p)) (output d b (suc q)) (oppositeTerm (output o (a + b) (suc (p + q))))
-      (loose c a (suc p) (omega arith)) (loose d b (suc q) (omega arith))
-      (loose-not o (a + b) (suc (p + q)) (low p q hp hq ne (decLt p a) (decLt q b))))
+      square downs (suc (t .a)) (suc (t .b)) (t .a) (t .b) (omega arith) (omega arith)
+      (rw (output-out (t .n) (t .a + t .b) (t .a + t .b) (le-refl (t .a + t .b)))
+      (left-out (output (t .c) (t .a) (suc (t .a))) (output (t .d) (t .b) (suc (t .b)))))
+      (λ p q hp hq ne. kept (output (t .c) (t .a) (suc p)) (output (t .d) (t .b) (suc q)) (oppositeTerm (output (t .n) (t .a + t .b) (suc (p + q))))
+      (loose (t .c) (t .a) (suc p) (omega arith)) (loose (t .d) (t .b) (suc q) (omega arith))
+      (loose-not (t .n) (t .a + t .b) (suc (p + q)) (low p q hp hq ne (decLt p (t .a)) (decLt q (t .b)))))
     where
-      low : (p q : ℕ) → p < suc a → q < suc b → (p ≡ a → q ≡ b → ⊥) → Dec (p < a) → Dec (q < b) → p + q < a + b
+      low : (p q : ℕ) → p < suc (t .a) → q < suc (t .b) → (p ≡ t .a → q ≡ t .b → ⊥) → Dec (p < t .a) → Dec (q < t .b) → p + q < t .a + t .b
       low p q hp hq ne (yes h) k = omega arith
       low p q hp hq ne (no h) (yes k) = omega arith
       low p q hp hq ne (no h) (no k) = absurd (ne (omega arith) (omega arith))
 
-  pairs : ℕ → ℕ → List (List Output)
-  pairs p q = up p q ∷ down p q ∷ []
+  dropped-length : (p q : ℕ) → length (dropped t p q) ≡ ups p q + downs p q
+  unfolding dropped putIn formed ups downs keptOf
+  dropped-length p q =
+      length-append (keptOf (up p q)) (keptOf (down p q) ++ []) ∙ ap (λ k. ups p q + k) (length-append (keptOf (down p q)) [] ∙ add-zero (downs p q))
 
-  node-total : length (nodeClauses c a d b o) ≡ total (λ p. total (λ q. ups p q + downs p q) (range 0 (suc b))) (range 0 (suc a))
-  unfolding nodeClauses formed pairs ups downs keptOf
+  node-total : length (nodeClauses t) ≡ total (λ p. total (λ q. ups p q + downs p q) (range 0 (suc (t .b)))) (range 0 (suc (t .a)))
+  unfolding nodeClauses rowClauses
   node-total =
-      ap length (each-each keptOf (λ p. each (pairs p) (range 0 (suc b))) (range 0 (suc a)))
-      ∙ length-each (λ p. each keptOf (each (pairs p) (range 0 (suc b)))) (range 0 (suc a))
-      ∙ total-ext (λ p. length (each keptOf (each (pairs p) (range 0 (suc b))))) (λ p. total (λ q. ups p q + downs p q) (range 0 (suc b)))
-      (λ p. ap length (each-each keptOf (pairs p) (range 0 (suc b)))
-      ∙ length-each (λ q. each keptOf (pairs p q)) (range 0 (suc b))
-      ∙ total-ext (λ q. length (each keptOf (pairs p q))) (λ q. ups p q + downs p q)
-      (λ q. length-append (keptOf (up p q)) (keptOf (down p q) ++ []) ∙ ap (λ k. ups p q + k) (length-append (keptOf (down p q)) [] ∙ add-zero (downs p q)))
-      (range 0 (suc b)))
-      (range 0 (suc a))
+      length-each (rowClauses t) (range 0 (suc (t .a)))
+      ∙ total-ext (λ p. length (rowClauses t p)) (λ p. total (λ q. ups p q + downs p q) (range 0 (suc (t .b))))
+      (λ p. length-each (dropped t p) (range 0 (suc (t .b)))
+      ∙ total-ext (λ q. length (dropped t p q)) (λ q. ups p q + downs p q) (dropped-length p) (range 0 (suc (t .b))))
+      (range 0 (suc (t .a)))
 
   -- "2(a+1)(b+1) - 2"
-  pub node-length : length (nodeClauses c a d b o) ≡ 2 * (suc a * suc b) - 2
+  pub node-length : length (nodeClauses t) ≡ 2 * (suc (t .a) * suc (t .b)) - 2
   node-length =
-      let split : total (λ p. total (λ q. ups p q + downs p q) (range 0 (suc b))) (range 0 (suc a))
-      ≡ total (λ p. total (ups p) (range 0 (suc b))) (range 0 (suc a)) + total (λ p. total (downs p) (range 0 (suc b))) (range 0 (suc a)) =
-      total-ext (λ p. total (λ q. ups p q + downs p q) (range 0 (suc b))) (λ p. total (ups p) (range 0 (suc b)) + total (downs p) (range 0 (suc b)))
-      (λ p. total-add (ups p) (downs p) (range 0 (suc b))) (range 0 (suc a))
-      ∙ total-add (λ p. total (ups p) (range 0 (suc b))) (λ p. total (downs p) (range 0 (suc b))) (range 0 (suc a)) in
+      let rows = range 0 (suc (t .a)) in
+      let row = range 0 (suc (t .b)) in
+      let split : total (λ p. total (λ q. ups p q + downs p q) row) rows ≡ total (λ p. total (ups p) row) rows + total (λ p. total (downs p) row) rows =
+      total-ext (λ p. total (λ q. ups p q + downs p q) row) (λ p. total (ups p) row + total (downs p) row)
+      (λ p. total-add (ups p) (downs p) row) rows
+      ∙ total-add (λ p. total (ups p) row) (λ p. total (downs p) row) rows in
       omega (arith, node-total, split, ups-count, downs-count)
 
 -- ---- a tree
@@ -144,20 +147,18 @@ outputCountIn-one (suc f) m h = rw (T-true (leb m 1) (le→leb m 1 h))
 node-total-length : (l r : Shape) (v o : ℕ)
     → length (treeClauses (node l r) v o)
     ≡ length (treeClauses l v o) + length (treeClauses r (v + leaves l) (o + outputs l)) + (2 * (suc (leaves l) * suc (leaves r)) - 2)
-unfolding treeClauses
 node-total-length l r v o =
     let w : ℕ = v + leaves l in
     let k : ℕ = o + outputs l in
-    let own = nodeClauses (rootOutput l v o) (leaves l) (rootOutput r w k) (leaves r) (k + outputs r) in
-    length-append (treeClauses l v o ++ treeClauses r w k) own
-    ∙ ap₂ (λ (x y : ℕ). x + y) (length-append (treeClauses l v o) (treeClauses r w k))
-    (node-length (rootOutput l v o) (leaves l) (rootOutput r w k) (leaves r) (k + outputs r))
+    ap length (tree-node l r v o)
+    ∙ length-append (treeClauses l v o ++ treeClauses r w k) (nodeClauses (nodeOver l r v o))
+    ∙ ap₂ (λ (x y : ℕ). x + y) (length-append (treeClauses l v o) (treeClauses r w k)) (node-length (nodeOver l r v o))
 
 arrange : (x y a b : ℕ) → x + y + (2 * (suc a * suc b) - 2) ≡ x + y + 2 * ((a + 1) * (b + 1)) - 2
 arrange x y a b = omega arith
 
 length-treeIn : (f m v o : ℕ) → m ≤ f → length (treeClauses (shapeIn f m) v o) ≡ clauseCountIn f m
-unfolding treeClauses
+unfolding treeClauses nodes
 length-treeIn zero m v o h = rw (shapeIn-one zero m (omega arith), clauseCountIn-one zero m (omega arith))
 length-treeIn (suc f) m v o h =
     go (decLe 2 m) (λ v o l. length-treeIn f (m / 2) v o l) (λ v o l. length-treeIn f (m - m / 2) v o l)

@@ -2,6 +2,7 @@ pub mod Truth
 pub mod Node
 pub mod Tree
 pub mod Totalizer
+pub mod Steps
 pub mod Counts
 pub mod Groups
 pub mod Fixpoint

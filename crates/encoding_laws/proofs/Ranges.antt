@@ -11,6 +11,8 @@ use Rattle.model.specs.declared.Literal.{Literal}
 use Rattle.model.specs.declared.Literal.the-variants.{Pos, Neg}
 use Rattle.model.specs.declared.Term.{Term}
 use Rattle.model.specs.declared.Term.the-variants.{Holds, Fails, Open}
+use Rattle.model.specs.declared.Printed.{Printed}
+use Rattle.model.specs.declared.Node.{Node}
 use Rattle.model.specs.declared.Group.{Group}
 use Rattle.model.specs.declared.Constraint.{Constraint}
 use Rattle.model.specs.declared.Model.{Model}
@@ -19,12 +21,13 @@ use Rattle.model.specs.Words.{bit, has}
 use Rattle.model.specs.Clauses.{clausesOf}
 use Rattle.model.specs.Model.{zeroGroup, groupAt, tableOf, constraintsOf}
 use Rattle.model.specs.Propagate.{Settled}
-use Rattle.model.specs.Totalizer.{opposite, oppositeTerm, holds, literals, keep, Output, left, right, own, formed, output, signed, putIn, nodeClauses, Shape, leaf, node, shape, leaves, outputs, rootOutput, treeClauses, unit, unitClauses, totalizerClauses, treeOutputCount}
+use Rattle.model.specs.Totalizer.{opposite, oppositeTerm, holds, literals, keep, formed, output, outputTerm, nodeTerms, putIn, dropped, rowClauses, nodeClauses, Shape, leaf, node, shape, leaves, outputs, rootOutput, nodeOver, nodes, treeClauses, unit, unitClauses, totalizerClauses, treeOutputCount}
 use Rattle.model.specs.Cnf.{openOf, openCount, atLeast, atMost, counted, outputsOf, firstVariable, firstOutput, variableOf, tableVariables, variableCount, groupClauses, membership, termOf, clausesAt, constraintClauses, clauses}
 use Rattle.model.specs.Assignment.{variable}
 use Rattle.model.proofs.Words.{has-one, has-none, has-zero, bit-less, size-below-lt}
 use Rattle.model.proofs.Lists.{total-place, All, all-both, all-each, all-map-iff, all-of, range-all, all-place}
 use Rattle.encoding_laws.proofs.Node.{output-in, output-out}
+use Rattle.encoding_laws.proofs.Tree.{tree-node}
 use Rattle.encoding_laws.proofs.Totalizer.{leaves-shape}
 use Rattle.encoding_laws.proofs.Counts.{outputs-count}
 use Rattle.encoding_laws.proofs.Groups.{table-length, clauses-parts}
@@ -74,21 +77,36 @@ module _ (lo hi : ℕ) where
       go (yes l) = rw (output-in f m i l) (omega arith, omega arith)
       go (no l) = rw (output-out f m i (omega arith)) tt
 
-  signed-in : (s : Bool) (x : Term) → InTerm x → InTerm (signed s x)
-  signed-in true x h = h
-  signed-in false x h = opposite-in x h
+  -- a node whose outputs are in it
+  record InNode (t : Node) : Type 0 where
+    c-low : lo ≤ t .c
+    c-high : t .c + t .a ≤ hi
+    d-low : lo ≤ t .d
+    d-high : t .d + t .b ≤ hi
+    n-low : lo ≤ t .n
+    n-high : t .n + (t .a + t .b) ≤ hi
 
-  node-in : (c a d b o : ℕ) → lo ≤ c → c + a ≤ hi → lo ≤ d → d + b ≤ hi → lo ≤ o → o + (a + b) ≤ hi → InAll (nodeClauses c a d b o)
-  unfolding nodeClauses putIn
-  node-in c a d b o h1 h2 h3 h4 h5 h6 =
-      all-each (All In) (λ fs. keep (map (putIn c a d b o) fs)) (formed a b)
-      (all-of (λ fs. InAll (keep (map (putIn c a d b o) fs)))
-      (λ fs. keep-in (map (putIn c a d b o) fs) (all-map-iff InTerm (putIn c a d b o) fs .1 (all-of (λ f. InTerm (putIn c a d b o f)) ok fs))) (formed a b))
+  node-in : (t : Node) → InNode t → InAll (nodeClauses t)
+  unfolding nodeClauses rowClauses dropped putIn nodeTerms
+  node-in t h =
+      all-each (All In) (rowClauses t) (range 0 (suc (t .a)))
+      (all-of (λ p. InAll (rowClauses t p))
+      (λ p. all-each (All In) (dropped t p) (range 0 (suc (t .b))) (all-of (λ q. InAll (dropped t p q)) (dropped-in p) (range 0 (suc (t .b)))))
+      (range 0 (suc (t .a))))
     where
-      ok : (f : Output) → InTerm (putIn c a d b o f)
-      ok (left s p) = signed-in s (output c a p) (output-range c a p h1 h2)
-      ok (right s q) = signed-in s (output d b q) (output-range d b q h3 h4)
-      ok (own s r) = signed-in s (output o (a + b) r) (output-range o (a + b) r h5 h6)
+      output-in-it : (f k : ℕ) (l : Literal) → lo ≤ f → f + k ≤ hi → InTerm (outputTerm f k l)
+      output-in-it f k (Pos i) x y = output-range f k i x y
+      output-in-it f k (Neg i) x y = opposite-in (output f k i) (output-range f k i x y)
+
+      terms-in : (f : Printed) → InAll (keep (nodeTerms t f))
+      terms-in f =
+          keep-in (nodeTerms t f) (
+            output-in-it (t .c) (t .a) (f .c) (h .c-low) (h .c-high),
+            (output-in-it (t .d) (t .b) (f .d) (h .d-low) (h .d-high), (output-in-it (t .n) (t .a + t .b) (f .n) (h .n-low) (h .n-high), tt)),
+          )
+
+      dropped-in : (p q : ℕ) → InAll (dropped t p q)
+      dropped-in p q = all-each (All In) keep (putIn t p q) (terms-in (formed p q .up), (terms-in (formed p q .down), tt))
 
   root-low : (s : Shape) (v n : ℕ) → lo ≤ v → lo ≤ n → lo ≤ rootOutput s v n
   root-low leaf v n h k = h
@@ -99,19 +117,24 @@ module _ (lo hi : ℕ) where
   root-high (node l r) v n h k = omega arith
 
   tree-in : (s : Shape) (v n : ℕ) → lo ≤ v → lo ≤ n → v + leaves s ≤ hi → n + outputs s ≤ hi → InAll (treeClauses s v n)
-  unfolding treeClauses
+  unfolding treeClauses nodes
   tree-in leaf v n h1 h2 h3 h4 = tt
   tree-in (node l r) v n h1 h2 h3 h4 =
       let w : ℕ = v + leaves l in
       let k : ℕ = n + outputs l in
-      let own = nodeClauses (rootOutput l v n) (leaves l) (rootOutput r w k) (leaves r) (k + outputs r) in
-      all-both (All In) (treeClauses l v n ++ treeClauses r w k) own .1 (
+      subst InAll (sym (tree-node l r v n))
+      (all-both (All In) (treeClauses l v n ++ treeClauses r w k) (nodeClauses (nodeOver l r v n)) .1 (
         all-both (All In) (treeClauses l v n) (treeClauses r w k) .1
             (tree-in l v n h1 h2 (omega arith) (omega arith), tree-in r w k (omega arith) (omega arith) (omega arith) (omega arith)),
-        node-in (rootOutput l v n) (leaves l) (rootOutput r w k) (leaves r) (k + outputs r) (root-low l v n h1 h2)
-            (root-high l v n (omega arith) (omega arith)) (root-low r w k (omega arith) (omega arith))
-            (root-high r w k (omega arith) (omega arith)) (omega arith) (omega arith),
-      )
+        node-in (nodeOver l r v n) record {
+          c-low = root-low l v n h1 h2;
+          c-high = root-high l v n (omega arith) (omega arith);
+          d-low = root-low r w k (omega arith) (omega arith);
+          d-high = root-high r w k (omega arith) (omega arith);
+          n-low = omega arith;
+          n-high = omega arith;
+        },
+      ))
 
   totalizer-in : (m v n L U : ℕ) → 1 ≤ m → L ≤ m → lo ≤ v → lo ≤ n → v + m ≤ hi → n + treeOutputCount m ≤ hi → InAll (totalizerClauses m v n L U)
   unfolding unit unitClauses totalizerClauses

@@ -18,7 +18,7 @@ use Rattle.model.specs.Fill.{count}
 use Rattle.model.proofs.Lists.{T-true, T-false, every-map, every-range, range-every}
 use Rattle.encoding_laws.proofs.Truth.{allTrue, allTrue-append}
 use Rattle.encoding_laws.proofs.Node.{Unary}
-use Rattle.encoding_laws.proofs.Tree.{Filled, valuesFrom, trues, trues-le, filled-root, tree-iff}
+use Rattle.encoding_laws.proofs.Tree.{tree-node, Filled, valuesFrom, trues, trues-le, filled-root, tree-iff}
 
 T-or : (b : Bool) → T (b || false) ↔ T b
 T-or true = (λ t. t, λ t. t)
@@ -120,10 +120,17 @@ pub tree-step : (m v o : ℕ) → 2 ≤ m
     → treeClauses (shape m) v o
     ≡ treeClauses (shape (m / 2)) v o
     ++ treeClauses (shape (m - m / 2)) (v + m / 2) (o + outputs (shape (m / 2)))
-    ++ nodeClauses (rootOutput (shape (m / 2)) v o) (m / 2) (rootOutput (shape (m - m / 2)) (v + m / 2) (o + outputs (shape (m / 2)))) (m - m / 2)
-    (o + outputs (shape (m / 2)) + outputs (shape (m - m / 2)))
-unfolding treeClauses
-tree-step m v o h = rw (shape-step m h) (rw (leaves-shape (m / 2) (omega arith), leaves-shape (m - m / 2) (omega arith)))
+    ++ nodeClauses record {
+      c = rootOutput (shape (m / 2)) v o;
+      a = m / 2;
+      d = rootOutput (shape (m - m / 2)) (v + m / 2) (o + outputs (shape (m / 2)));
+      b = m - m / 2;
+      n = o + outputs (shape (m / 2)) + outputs (shape (m - m / 2));
+    }
+tree-step m v o h =
+    rw (shape-step m h)
+    (tree-node (shape (m / 2)) (shape (m - m / 2)) v o
+    ∙ rw (leaves-shape (m / 2) (omega arith), leaves-shape (m - m / 2) (omega arith)))
 
 pub root-step : (m v o : ℕ) → 2 ≤ m → rootOutput (shape m) v o + m ≡ o + outputs (shape m)
 root-step m v o h =

@@ -1,8 +1,8 @@
 -- A tree's clauses hold exactly when its outputs are the unary counts of its leaves. Assumes nothing.
-use mathlib.Core.Path.{_≡_, refl, sym, ap, _∙_, subst}
+use mathlib.Core.Path.{_≡_, refl, sym, ap, ap₂, _∙_, subst}
 use mathlib.Core.Logic.{_↔_}
 use mathlib.Core.Bool.{Bool, true, false}
-use mathlib.Core.List.{List, [], _∷_, _++_, map}
+use mathlib.Core.List.{List, [], _∷_, _++_, map, append-nil}
 use Prim.Native.Nat.{ℕ, suc, _+_, _≤_}
 use native.Mathlib.Nat.{add-zero, zero-add, suc-add}
 use native.Mathlib.Omega.{arith}
@@ -10,12 +10,27 @@ use lib.Dec.{T, ltb}
 use lib.ListN.{length, take, drop, length-append}
 use lib.Seq.{take-at, drop-at}
 use Rattle.model.specs.Lists.{range}
-use Rattle.model.specs.Totalizer.{nodeClauses, Shape, leaf, node, leaves, outputs, rootOutput, treeClauses}
+use Rattle.model.specs.declared.Literal.{Literal}
+use Rattle.model.specs.Totalizer.{nodeClauses, Shape, leaf, node, leaves, outputs, rootOutput, nodeOver, nodes, treeClauses}
 use Rattle.model.specs.Close.{truth}
 use Rattle.model.specs.Fill.{count, unary, treeValues}
-use Rattle.model.proofs.Lists.{values-get, values-make, values-append, values-length, append-iff}
+use Rattle.model.proofs.Lists.{values-get, values-make, values-append, values-length, append-iff, each-append}
 use Rattle.encoding_laws.proofs.Truth.{allTrue, allTrue-append}
 use Rattle.encoding_laws.proofs.Node.{Unary, node→, node←}
+
+-- ---- the clauses of a tree, from those of its halves
+
+pub tree-node : (l r : Shape) (v o : ℕ)
+    → treeClauses (node l r) v o
+    ≡ treeClauses l v o ++ treeClauses r (v + leaves l) (o + outputs l) ++ nodeClauses (nodeOver l r v o)
+unfolding treeClauses nodes
+tree-node l r v o =
+    let k : ℕ = o + outputs l in
+    let ls = nodes l v o in
+    let rs = nodes r (v + leaves l) k in
+    let t = nodeOver l r v o in
+    each-append nodeClauses (ls ++ rs) (t ∷ [])
+    ∙ ap₂ (λ (x y : List (List Literal)). x ++ y) (each-append nodeClauses ls rs) (append-nil (nodeClauses t))
 
 -- ---- what the outputs must be
 
@@ -125,13 +140,12 @@ module _ (a : List Bool) where
       subst (λ x. Unary a (o + outputs l + outputs r) (leaves l + leaves r) x) (sym (trues-add v (leaves l) (leaves r))) (parts l r v o .0 f .1 .1)
 
   tree→ : (s : Shape) (v o : ℕ) → T (allTrue a (treeClauses s v o)) → Filled s v o
-  unfolding treeClauses
+  unfolding treeClauses nodes
   tree→ leaf v o t = refl
   tree→ (node l r) v o t =
       let w : ℕ = v + leaves l in
       let k : ℕ = o + outputs l in
-      let own = nodeClauses (rootOutput l v o) (leaves l) (rootOutput r w k) (leaves r) (k + outputs r) in
-      let s = allTrue-append a (treeClauses l v o ++ treeClauses r w k) own .0 t in
+      let s = allTrue-append a (treeClauses l v o ++ treeClauses r w k) (nodeClauses (nodeOver l r v o)) .0 (subst (λ cs. T (allTrue a cs)) (tree-node l r v o) t) in
       let z = allTrue-append a (treeClauses l v o) (treeClauses r w k) .0 (s .0) in
       let fl = tree→ l v o (z .0) in
       let fr = tree→ r w k (z .1) in
@@ -139,24 +153,23 @@ module _ (a : List Bool) where
         fl,
         (
           fr,
-          node→ a (rootOutput l v o) (leaves l) (rootOutput r w k) (leaves r) (k + outputs r) (trues v (leaves l)) (trues w (leaves r))
+          node→ a (nodeOver l r v o) (trues v (leaves l)) (trues w (leaves r))
               (trues-le v (leaves l)) (trues-le w (leaves r)) (filled-root l v o fl) (filled-root r w k fr) (s .1),
         ),
       )
 
   tree← : (s : Shape) (v o : ℕ) → Filled s v o → T (allTrue a (treeClauses s v o))
-  unfolding treeClauses
+  unfolding treeClauses nodes
   tree← leaf v o f = tt
   tree← (node l r) v o f =
       let w : ℕ = v + leaves l in
       let k : ℕ = o + outputs l in
-      let own = nodeClauses (rootOutput l v o) (leaves l) (rootOutput r w k) (leaves r) (k + outputs r) in
       let s = parts l r v o .0 f in
-      allTrue-append a (treeClauses l v o ++ treeClauses r w k) own .1 (
+      subst (λ cs. T (allTrue a cs)) (sym (tree-node l r v o)) (allTrue-append a (treeClauses l v o ++ treeClauses r w k) (nodeClauses (nodeOver l r v o)) .1 (
         allTrue-append a (treeClauses l v o) (treeClauses r w k) .1 (tree← l v o (s .0), tree← r w k (s .1 .0)),
-        node← a (rootOutput l v o) (leaves l) (rootOutput r w k) (leaves r) (k + outputs r) (trues v (leaves l)) (trues w (leaves r))
+        node← a (nodeOver l r v o) (trues v (leaves l)) (trues w (leaves r))
             (trues-le v (leaves l)) (trues-le w (leaves r)) (filled-root l v o (s .0)) (filled-root r w k (s .1 .0)) (s .1 .1),
-      )
+      ))
 
   -- for every tree, wherever its leaves and outputs are numbered from
   pub tree-iff : (s : Shape) (v o : ℕ) → T (allTrue a (treeClauses s v o)) ↔ Filled s v o

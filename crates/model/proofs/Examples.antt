@@ -1,5 +1,5 @@
 -- The starred examples A to I of document 01, as request 1 has them, proved together as one table over the definitions; the limits of each code,
--- fillings, the published DIMACS samples and blank marks beside them. Assumes nothing.
+-- fillings, the printed steps of a node, the published DIMACS samples and blank marks beside them. Assumes nothing.
 use mathlib.Core.Path.{_≡_, refl}
 use Prim.Native.Nat.{ℕ, _-_}
 use Prim.Native.Char.{code}
@@ -11,13 +11,15 @@ use lib.Dec.{T, leb, eqb, leb→le}
 use lib.ListN.{length, replicate}
 use Rattle.model.specs.declared.Literal.{Literal}
 use Rattle.model.specs.declared.Literal.the-variants.{Pos, Neg}
+use Rattle.model.specs.declared.Term.the-variants.{Holds, Fails, Open}
+use Rattle.model.specs.declared.Node.{Node}
 use Rattle.model.specs.declared.Model.{Model}
 use Rattle.model.specs.declared.Closed.{Closed}
 use Rattle.model.specs.Lists.{every, each, pairwise, range}
 use Rattle.model.specs.Model.{tableOf, inRange}
 use Rattle.model.specs.Sheet.{readSheet}
 use Rattle.model.specs.Propagate.{propagated, sameTable, isFixpoint}
-use Rattle.model.specs.Totalizer.{treeClauseCount, treeOutputCount}
+use Rattle.model.specs.Totalizer.{formed, putIn, dropped, shape, nodes, treeClauseCount, treeOutputCount}
 use Rattle.model.specs.Cnf.{variableCount, clauses}
 use Rattle.model.specs.Text.{fieldText, headerText, blockText, listing, blockRefusal}
 use Rattle.model.specs.SheetText.{sheetText}
@@ -323,6 +325,36 @@ fillTable = fourFilled && notFilled && fiveFilled
 pub fillings : T fillTable
 unfolding defs bytes same modelOf settled sheetA sheetE fillsAs fourFilled notFilled fiveFilled fillTable
 fillings = tt
+
+-- ---- the printed steps (request 4) at three places of the root of a tree of three: C has one output, 1; D has two, 4 and 5; N has three, 6 to 8
+
+rootOfThree : Node
+rootOfThree = record { c = 1; a = 1; d = 4; b = 2; n = 6 }
+
+treeOfThree : nodes (shape 3) 1 4 ≡ record { c = 2; a = 1; d = 3; b = 1; n = 4 } ∷ rootOfThree ∷ []
+unfolding defs rootOfThree
+treeOfThree = refl
+
+-- up is left out, since N_0 is true
+firstPlace : (formed 0 0 ≡ record { up = record { c = Neg 0; d = Neg 0; n = Pos 0 }; down = record { c = Pos 1; d = Pos 1; n = Neg 1 } })
+    × (putIn rootOfThree 0 0 ≡ (Fails ∷ Fails ∷ Holds ∷ []) ∷ (Open (Pos 1) ∷ Open (Pos 4) ∷ Open (Neg 6) ∷ []) ∷ [])
+    × (dropped rootOfThree 0 0 ≡ (Pos 1 ∷ Pos 4 ∷ Neg 6 ∷ []) ∷ [])
+unfolding defs rootOfThree
+firstPlace = (refl, refl, refl)
+
+-- D_0 is true and C_2 false: either clause loses a literal
+edge : (formed 1 0 ≡ record { up = record { c = Neg 1; d = Neg 0; n = Pos 1 }; down = record { c = Pos 2; d = Pos 1; n = Neg 2 } })
+    × (putIn rootOfThree 1 0 ≡ (Open (Neg 1) ∷ Fails ∷ Open (Pos 6) ∷ []) ∷ (Fails ∷ Open (Pos 4) ∷ Open (Neg 7) ∷ []) ∷ [])
+    × (dropped rootOfThree 1 0 ≡ (Neg 1 ∷ Pos 6 ∷ []) ∷ (Pos 4 ∷ Neg 7 ∷ []) ∷ [])
+unfolding defs rootOfThree
+edge = (refl, refl, refl)
+
+-- down is left out, since N_4 is false
+lastPlace : (formed 1 2 ≡ record { up = record { c = Neg 1; d = Neg 2; n = Pos 3 }; down = record { c = Pos 2; d = Pos 3; n = Neg 4 } })
+    × (putIn rootOfThree 1 2 ≡ (Open (Neg 1) ∷ Open (Neg 5) ∷ Open (Pos 8) ∷ []) ∷ (Fails ∷ Fails ∷ Holds ∷ []) ∷ [])
+    × (dropped rootOfThree 1 2 ≡ (Neg 1 ∷ Neg 5 ∷ Pos 8 ∷ []) ∷ [])
+unfolding defs rootOfThree
+lastPlace = (refl, refl, refl)
 
 -- ---- the three published DIMACS samples, as the DIMACS reader reads them
 

@@ -1,13 +1,16 @@
 -- The totalizer, which document 01 calls the counter: "It is a tree: a node of size m ≥ 2 has a left half of size m/2 rounded down and a right half
--- with the rest; order is left half, right half, then the node itself." Its clauses in the three printed steps: formed, put in, dropped.
+-- with the rest; order is left half, right half, then the node itself." A node's clauses by the printed steps: formed, put in, dropped.
 use Prim.Native.Nat.{ℕ, zero, suc, _+_, _-_, _*_, _/_}
-use mathlib.Core.Bool.{Bool, true, false, cond, not}
+use mathlib.Core.Bool.{Bool, true, false, cond}
 use mathlib.Core.List.{List, [], _∷_, _++_, map}
 use lib.Dec.{leb, ltb}
 use Rattle.model.specs.declared.Literal.{Literal}
 use Rattle.model.specs.declared.Literal.the-variants.{Pos, Neg}
 use Rattle.model.specs.declared.Term.{Term}
 use Rattle.model.specs.declared.Term.the-variants.{Holds, Fails, Open}
+use Rattle.model.specs.declared.Printed.{Printed}
+use Rattle.model.specs.declared.Formed.{Formed}
+use Rattle.model.specs.declared.Node.{Node}
 use Rattle.model.specs.Lists.{any, each, range}
 
 -- ---- literals of which some are known
@@ -36,41 +39,45 @@ literals (Open l ∷ ts) = l ∷ literals ts
 unfoldable pub keep : List Term → List (List Literal)
 keep ts = cond (any holds ts) [] (literals ts ∷ [])
 
--- ---- a node's clauses, of the outputs C of its left half, D of its right half and N of its own
+-- ---- a node's clauses, in the three steps of document 001, section 6.4: node N with children C¹ and C², which document 01 calls C and D, and p and q for α and β
 
--- an output by its index: true for C_p, false for -C_p
-pub data Output : Type 0 where
-  left right own : Bool → ℕ → Output
+-- First step, both clauses formed: "(¬C¹_α ∨ ¬C²_β ∨ N_γ) ∧ (C¹_(α+1) ∨ C²_(β+1) ∨ ¬N_(γ+1))", where "α + β = γ".
+-- 01: "up: (-C_p -D_q N_(p+q))", "down: (C_(p+1) D_(q+1) -N_(p+q+1))"
+unfoldable pub up : ℕ → ℕ → Printed
+up p q = record { c = Neg p; d = Neg q; n = Pos (p + q) }
 
--- "up: (-C_p -D_q N_(p+q))", "down: (C_(p+1) D_(q+1) -N_(p+q+1))"
-unfoldable pub up : ℕ → ℕ → List Output
-up p q = left false p ∷ right false q ∷ own true (p + q) ∷ []
+unfoldable pub down : ℕ → ℕ → Printed
+down p q = record { c = Pos (suc p); d = Pos (suc q); n = Neg (suc (p + q)) }
 
-unfoldable pub down : ℕ → ℕ → List Output
-down p q = left true (suc p) ∷ right true (suc q) ∷ own false (suc (p + q)) ∷ []
+unfoldable pub formed : ℕ → ℕ → Formed
+formed p q = record { up = up p q; down = down p q }
 
--- first step: "for p = 0..a, within it q = 0..b"
-unfoldable pub formed : ℕ → ℕ → List (List Output)
-formed a b = each (λ p. each (λ q. up p q ∷ down p q ∷ []) (range 0 (suc b))) (range 0 (suc a))
-
--- "Index 0 is true, an index above the size is false": output i of `size` outputs, numbered from `first` on
+-- Second step, true and false put in: "with C¹_0 = C²_0 = N_0 = 1, and C¹_(|C¹|+1) = C²_(|C²|+1) = N_(|M|+1) = 0".
+-- 01: "Index 0 is true, an index above the size is false." Between them stands output i of `size` outputs, numbered from `first` on
 abbrev pub output : ℕ → ℕ → ℕ → Term
 output first size zero = Holds
 output first size (suc i) = cond (ltb i size) (Open (Pos (first + i))) Fails
 
-abbrev pub signed : Bool → Term → Term
-signed true t = t
-signed false t = oppositeTerm t
+abbrev pub outputTerm : ℕ → ℕ → Literal → Term
+outputTerm first size (Pos i) = output first size i
+outputTerm first size (Neg i) = oppositeTerm (output first size i)
 
--- second step: the outputs of C start at c, those of D at d, the node's at o
-unfoldable pub putIn : ℕ → ℕ → ℕ → ℕ → ℕ → Output → Term
-putIn c a d b o (left s p) = signed s (output c a p)
-putIn c a d b o (right s q) = signed s (output d b q)
-putIn c a d b o (own s r) = signed s (output o (a + b) r)
+unfoldable pub nodeTerms : Node → Printed → List Term
+nodeTerms t f = outputTerm (t .c) (t .a) (f .c) ∷ outputTerm (t .d) (t .b) (f .d) ∷ outputTerm (t .n) (t .a + t .b) (f .n) ∷ []
 
--- third step
-unfoldable pub nodeClauses : ℕ → ℕ → ℕ → ℕ → ℕ → List (List Literal)
-nodeClauses c a d b o = each (λ f. keep (map (putIn c a d b o) f)) (formed a b)
+unfoldable pub putIn : Node → ℕ → ℕ → List (List Term)
+putIn t p q = nodeTerms t (formed p q .up) ∷ nodeTerms t (formed p q .down) ∷ []
+
+-- Third step, what is known dropped, as `keep` has it: "A clause with a true literal is left out, a false literal dropped"
+unfoldable pub dropped : Node → ℕ → ℕ → List (List Literal)
+dropped t p q = each keep (putIn t p q)
+
+-- "for p = 0..a, within it q = 0..b"
+unfoldable pub rowClauses : Node → ℕ → List (List Literal)
+rowClauses t p = each (dropped t p) (range 0 (suc (t .b)))
+
+unfoldable pub nodeClauses : Node → List (List Literal)
+nodeClauses t = each (rowClauses t) (range 0 (suc (t .a)))
 
 -- ---- the tree
 
@@ -100,12 +107,23 @@ abbrev pub rootOutput : Shape → ℕ → ℕ → ℕ
 rootOutput leaf v o = v
 rootOutput (node l r) v o = o + outputs l + outputs r
 
+-- the node over the halves l and r, its leaves' variables from v on and its outputs from o on
+abbrev pub nodeOver : Shape → Shape → ℕ → ℕ → Node
+nodeOver l r v o = record {
+  c = rootOutput l v o;
+  a = leaves l;
+  d = rootOutput r (v + leaves l) (o + outputs l);
+  b = leaves r;
+  n = o + outputs l + outputs r;
+}
+
+-- "order is left half, right half, then the node itself"
+unfoldable pub nodes : Shape → ℕ → ℕ → List Node
+nodes leaf v o = []
+nodes (node l r) v o = nodes l v o ++ nodes r (v + leaves l) (o + outputs l) ++ (nodeOver l r v o ∷ [])
+
 unfoldable pub treeClauses : Shape → ℕ → ℕ → List (List Literal)
-treeClauses leaf v o = []
-treeClauses (node l r) v o =
-    treeClauses l v o
-    ++ treeClauses r (v + leaves l) (o + outputs l)
-    ++ nodeClauses (rootOutput l v o) (leaves l) (rootOutput r (v + leaves l) (o + outputs l)) (leaves r) (o + outputs l + outputs r)
+treeClauses s v o = each nodeClauses (nodes s v o)
 
 -- "After the root's clauses: units N_1..N_L, then -N_(U+1)..-N_m", where N starts at `first`
 unfoldable pub unit : (ℕ → Literal) → ℕ → ℕ → List Literal

@@ -12,7 +12,7 @@ ghost use Rattle.model.specs.Words.{full};
 ghost use Rattle.model.specs.Sheet.{digitsAfter, shortNumber, digitsValue};
 ghost use Rattle.model.specs.Model.{zeroModel, constraintSized};
 
-// "F" and "-F" of document 01: of a member of a constraint, of a group, or of a variable.
+// "F" and "-F" of document 01: of a member of a constraint, of a group, of a variable, or of an output by its index.
 pub enum Literal {
     Pos(u32),
     Neg(u32),
@@ -23,6 +23,28 @@ pub enum Term {
     Holds,
     Fails,
     Open(Literal),
+}
+
+// A clause of a totalizer's node as document 001 prints it: a literal of child C, of child D and of the node N, each by its output's index.
+pub struct Printed {
+    pub c: Literal,
+    pub d: Literal,
+    pub n: Literal,
+}
+
+// Both clauses of a p and q.
+pub struct Formed {
+    pub up: Printed,
+    pub down: Printed,
+}
+
+// A node: child C has a outputs, numbered from c on, child D has b from d on, and the node N a + b from n on.
+pub struct Node {
+    pub c: u32,
+    pub a: u32,
+    pub d: u32,
+    pub b: u32,
+    pub n: u32,
 }
 
 // Source 001's group record. Entrant e is bit e - 1 of a word.

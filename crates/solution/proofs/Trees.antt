@@ -7,7 +7,7 @@ use Prim.Native.Nat.{ℕ, zero, suc, _+_, _-_, _/_, _≤_, _<_}
 use native.Mathlib.Omega.{arith}
 use lib.Dec.{T, leb, ltb}
 use Rattle.model.specs.Lists.{total, range}
-use Rattle.model.specs.Totalizer.{Shape, node, shape, leaves, outputs, treeClauses, treeOutputCount}
+use Rattle.model.specs.Totalizer.{Shape, node, shape, leaves, outputs, nodes, treeClauses, treeOutputCount}
 use Rattle.model.specs.Close.{truth}
 use Rattle.model.specs.Fill.{count}
 use Rattle.model.proofs.Lists.{T-ext, beq-refl, beq-eq, every-range, range-every}
@@ -102,7 +102,7 @@ halves m k j h l p q =
     (a, b, omega (arith, output-count-step m l))
 
 pub leaf-holds : (a : List Bool) (m v o : ℕ) → m < 2 → true ≡ allTrue a (treeClauses (shape m) v o)
-unfolding treeClauses
+unfolding treeClauses nodes
 leaf-holds a m v o h = sym (ap (λ (s : Shape). allTrue a (treeClauses s v o)) (shape-one m (omega arith)))
 
 module _ (a : List Bool) (m v o p own : ℕ) (h : 2 ≤ m) (hp : p ≡ o + treeOutputCount (m / 2)) (ho : own ≡ p + treeOutputCount (m - m / 2)) where

@@ -139,7 +139,8 @@ fn read_number(word: &[u8]) -> Option<i32> {
         return None;
     }
     let number: i32 = std::str::from_utf8(word).ok()?.parse().ok()?;
-    (number.abs() <= MOST && word != b"-0").then_some(number)
+    let minus_zero = number == 0 && word.starts_with(b"-");
+    (number.abs() <= MOST && !minus_zero).then_some(number)
 }
 
 #[cfg(test)]
@@ -160,7 +161,7 @@ mod tests {
     fn what_is_no_line() {
         let lemmas = ["", "\n", "7\n", "7 1\n", "7 1 0\n", "7 1 0 3\n", "7 1 0 -3 0\n", "7 1 0 3 0 0\n", "7 1 0 3 0 ", "7 0 3 0", "0 1 0 3 0\n", "-7 0 0\n"];
         let deletions = ["7 d 5\n", "7 d -5 0\n", "7 d 0 0\n", "-7 d 5 0\n", "7 d 5 0", "d 5 0\n"];
-        let numbers = ["7 x 0 0\n", "7 1 0 3 0\r\n", "7 1 -0 3 0\n", "7 +1 0 3 0\n", "7 400000001 0 3 0\n", "7 99999999999999999999 0 3 0\n"];
+        let numbers = ["7 x 0 0\n", "7 1 0 3 0\r\n", "7 1 -0 3 0\n", "7 1 0 3 -00\n", "7 +1 0 3 0\n", "7 400000001 0 3 0\n", "7 99999999999999999999 0 3 0\n"];
         for line in lemmas.iter().chain(&deletions).chain(&numbers) {
             assert_eq!(read_line(line.as_bytes()), None, "{line:?}");
         }

@@ -5,6 +5,7 @@ use super::certificates::{self, CertificateCase};
 use super::filling::{self, FillCase};
 use super::limits;
 use super::models::{self, ModelCase};
+use super::steps;
 use super::twins::{self, TwinCase};
 use crate::encode::Encoding;
 use crate::listing::listing;
@@ -48,6 +49,10 @@ pub enum Case {
     Model(ModelCase),
     Certificate(CertificateCase),
     Twins(TwinCase),
+    /// The block of each counter, cut piece by piece.
+    Steps {
+        sheet: Vec<u8>,
+    },
 }
 
 pub type Kind = &'static str;
@@ -57,7 +62,7 @@ pub const SAMPLE: Kind = "line: answers to the published samples";
 /// Every kind of case, in the order of the report. A run that misses one has failed.
 pub fn kinds() -> impl Iterator<Item = Kind> {
     let parts = filling::kinds().chain(limits::kinds()).chain([models::KINDS, certificates::KINDS, blanks::KINDS].into_iter().flatten().copied());
-    KINDS.iter().copied().chain(parts).chain(twins::kinds())
+    KINDS.iter().copied().chain(parts).chain(twins::kinds()).chain(steps::kinds())
 }
 
 const KINDS: &[Kind] = &[
@@ -131,7 +136,7 @@ pub struct Outcome {
     pub kinds: Vec<Kind>,
     pub calls: u64,
     pub difference: Option<Difference>,
-    /// Where the kinds of the current call begin.
+    /// Where the kinds of the current call begin, or of the current part of its answer.
     current: usize,
 }
 
@@ -143,6 +148,11 @@ pub struct Difference {
 impl Outcome {
     pub fn note(&mut self, kind: Kind) {
         self.kinds.push(kind);
+    }
+
+    /// The kinds noted from here on are those of the next call, or of the next part of an answer.
+    pub fn go_on(&mut self) {
+        self.current = self.kinds.len();
     }
 
     /// Keeps the first difference.
@@ -188,6 +198,7 @@ pub fn check(case: &Case, other: &dyn Calls) -> Outcome {
         Case::Model(model) => model.check(other, &mut outcome),
         Case::Certificate(certificate) => certificate.check(other, &mut outcome),
         Case::Twins(twins) => twins.check(other, &mut outcome),
+        Case::Steps { sheet } => steps::check(sheet, other, &mut outcome),
     }
     outcome
 }
@@ -313,7 +324,7 @@ fn check_blocks(sheet: &[u8], rooms: &[usize], other: &dyn Calls, outcome: &mut 
         let (mut ours, mut theirs) = (junk(room), junk(room));
         let answer = Counterpart.blocks(sheet, block, &mut ours);
         let next = (answer >> 32) as u32;
-        outcome.current = outcome.kinds.len();
+        outcome.go_on();
         outcome.note(match answer as u32 {
             _ if next > last => "blocks: to the end of the listing",
             _ if next == block + 1 => "blocks: one block",
@@ -342,7 +353,7 @@ fn check_lines(marks: &[u8], lines: &[Vec<u8>], other: &dyn Calls, outcome: &mut
     outcome.calls = lines.len() as u64;
     for (index, line) in lines.iter().enumerate() {
         let answer = Counterpart.line(closed, line, &mut ours);
-        outcome.current = outcome.kinds.len();
+        outcome.go_on();
         outcome.note(line_kind(line, answer, closed, ours.len()));
         let their_answer = other.line(their_closed, line, &mut theirs);
         outcome.compare(&format!("line {}: refusal * 2 + closed", index + 1), answer, their_answer);
@@ -419,9 +430,8 @@ pub fn show_sheet(sheet: &[u8]) -> String {
 impl Case {
     pub fn sheet(&self) -> Option<&[u8]> {
         match self {
-            Case::Read { sheet } | Case::Settle { sheet, .. } | Case::Block { sheet, .. } | Case::Blocks { sheet, .. } | Case::Close { sheet, .. } => {
-                Some(sheet)
-            }
+            Case::Read { sheet } | Case::Settle { sheet, .. } | Case::Block { sheet, .. } | Case::Blocks { sheet, .. } => Some(sheet),
+            Case::Close { sheet, .. } | Case::Steps { sheet } => Some(sheet),
             Case::Fill(fill) => Some(&fill.sheet),
             Case::Certificate(certificate) => Some(&certificate.sheet),
             Case::Twins(twins) => twins.case.sheet(),
@@ -442,7 +452,7 @@ impl Case {
     pub fn with_sheet(&self, new: Vec<u8>) -> Case {
         let mut case = self.clone();
         match &mut case {
-            Case::Read { sheet } | Case::Settle { sheet, .. } | Case::Block { sheet, .. } | Case::Blocks { sheet, .. } => *sheet = new,
+            Case::Read { sheet } | Case::Settle { sheet, .. } | Case::Block { sheet, .. } | Case::Blocks { sheet, .. } | Case::Steps { sheet } => *sheet = new,
             Case::Close { sheet, marks, .. } => {
                 let variables = |sheet: &[u8]| settled(sheet).ok().map(|settled| Encoding::of(&settled).variables as isize);
                 if let (Some(before), Some(now)) = (variables(sheet), variables(&new)) {
@@ -469,6 +479,7 @@ impl Case {
             Case::Model(model) => model.show(),
             Case::Certificate(certificate) => certificate.show(),
             Case::Twins(twins) => twins.show(),
+            Case::Steps { sheet } => format!("each counter by its steps\n{}", show_sheet(sheet)),
             Case::Close { sheet, closed, marks, room } => format!("close, closed {closed}, marks {marks:?}, table of {room} words\n{}", show_sheet(sheet)),
             Case::Lines { marks, lines } => {
                 let lines: String = lines.iter().map(|line| format!("  \"{}\"\n", line.escape_ascii())).collect();

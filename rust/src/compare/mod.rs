@@ -14,4 +14,5 @@ pub mod samples;
 pub mod search;
 pub mod sheets;
 pub mod shrink;
+pub mod steps;
 pub mod twins;

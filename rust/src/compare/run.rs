@@ -5,7 +5,7 @@ use super::random::Random;
 use super::sheets::Sample;
 use super::shrink::shrink;
 use super::twins::TwinCase;
-use super::{answers, blanks, certificates, filling, limits, models, samples, sheets};
+use super::{answers, blanks, certificates, filling, limits, models, samples, sheets, steps};
 use crate::encode::Encoding;
 use crate::fill::assignment;
 use crate::listing::listing;
@@ -95,6 +95,9 @@ pub fn batch(random: &mut Random) -> Vec<Case> {
     if random.chance(10) {
         return limits_batch(random);
     }
+    if random.chance(4) {
+        return vec![Case::Steps { sheet: steps::sheet(random) }];
+    }
     if random.below(150) == 0 {
         return vec![Case::Fill(filling::largest(random))];
     }
@@ -112,6 +115,9 @@ pub fn batch(random: &mut Random) -> Vec<Case> {
         cases.push(block_case(random, &sheet));
     }
     cases.push(blocks_case(random, &sheet));
+    if sheet.len() < 2_000 && random.chance(20) {
+        cases.push(Case::Steps { sheet: sheet.clone() });
+    }
     cases.push(lines_case(random));
     for _ in 0..3 {
         cases.extend(models::case(random, &sheet, sample.draw.as_deref()).map(Case::Model));
@@ -230,6 +236,7 @@ fn close_case(random: &mut Random, sheet: Vec<u8>, draw: Option<&[u64]>) -> Case
 mod tests {
     use super::super::calls::{Counterpart, Lent};
     use super::*;
+    use crate::steps::{counters, dropped, form, put_in, Node, Printed, Value};
 
     const CALLS: u64 = 20_000;
 
@@ -421,6 +428,61 @@ mod tests {
             answer
         };
         is_caught(Broken { block, ..SOUND }, "block: buffer longer", "block 0");
+    }
+
+    /// A block, its counter made by steps of which the first two are `put`.
+    fn by_steps(sheet: &[u8], block: u32, buffer: &mut [u8], put: fn(&Node, u32, u32) -> [[Value; 3]; 2]) -> u64 {
+        let counters = settled(sheet).map_or(Vec::new(), |settled| counters(&settled.model().groups));
+        let Some(Some(counter)) = counters.get((block as usize).wrapping_sub(1)) else { return Counterpart.block(sheet, block, buffer) };
+        let at = |node: &Node, (p, q)| put(node, p, q).into_iter().filter_map(dropped).collect::<Vec<_>>();
+        let mut clauses: Vec<Vec<i32>> = counter.nodes.iter().flat_map(|node| node.places().flat_map(move |place| at(node, place))).collect();
+        clauses.extend(counter.units());
+        let text = steps::text(&clauses);
+        match buffer.get_mut(..text.len()) {
+            Some(start) => start.copy_from_slice(text.as_bytes()),
+            None => return 24 << 32,
+        }
+        text.len() as u64
+    }
+
+    const PAIR: &str = "each counter by its steps\n   1   2   1   0\n   2   1   1   2   1   1\n";
+
+    #[test]
+    fn a_down_clause_with_p_for_p_plus_1_is_caught() {
+        let block = |sheet: &[u8], block, buffer: &mut [u8]| {
+            by_steps(sheet, block, buffer, |node, p, q| {
+                let [up, mut down] = form(p, q);
+                down[0].index = p;
+                [put_in(node, up), put_in(node, down)]
+            })
+        };
+        is_caught(Broken { block, ..SOUND }, "steps: down of three literals", PAIR);
+    }
+
+    #[test]
+    fn an_index_past_the_size_put_in_as_true_is_caught() {
+        let block = |sheet: &[u8], block, buffer: &mut [u8]| {
+            by_steps(sheet, block, buffer, |node, p, q| {
+                let true_past = |literal: Printed| match literal.index > node.outputs(literal.set).size {
+                    true => Printed { index: 0, ..literal },
+                    false => literal,
+                };
+                form(p, q).map(|clause| put_in(node, clause.map(true_past)))
+            })
+        };
+        is_caught(Broken { block, ..SOUND }, "steps: down without D, q = b and p < a", PAIR);
+    }
+
+    /// It has no variable, so it is written as 0.
+    #[test]
+    fn a_false_literal_that_is_kept_is_caught() {
+        let block = |sheet: &[u8], block, buffer: &mut [u8]| {
+            by_steps(sheet, block, buffer, |node, p, q| {
+                let kept = |value| if value == Value::False { Value::Literal(0) } else { value };
+                form(p, q).map(|clause| put_in(node, clause).map(kept))
+            })
+        };
+        is_caught(Broken { block, ..SOUND }, "steps: up without C, p = 0 < q", PAIR);
     }
 
     #[test]

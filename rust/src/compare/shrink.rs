@@ -121,21 +121,25 @@ impl Shrinker<'_> {
         })
     }
 
+    /// Limits stay as they are, as far as they can, or all of them are one less.
     fn without_entrant(&mut self, entrant: u32) -> bool {
-        let mut model = self.model().unwrap();
+        let model = self.model().unwrap();
         if model.entrants == 1 {
             return false;
         }
-        model.entrants -= 1;
         let below = (1 << entrant) - 1;
         let squeeze = |set: u64| set & below | set >> 1 & !below;
-        for group in &mut model.groups {
-            group.fixed = squeeze(group.fixed);
-            group.possible = squeeze(group.possible);
-            group.high = group.high.min(model.entrants);
-            group.low = group.low.min(group.high);
-        }
-        self.attempt_both(&model, |groups| groups.iter_mut().for_each(|set| *set = squeeze(*set)))
+        [0, 1].into_iter().any(|less| {
+            let mut model = model.clone();
+            model.entrants -= 1;
+            for group in &mut model.groups {
+                group.fixed = squeeze(group.fixed);
+                group.possible = squeeze(group.possible);
+                group.high = group.high.saturating_sub(less).min(model.entrants);
+                group.low = group.low.saturating_sub(less).min(group.high);
+            }
+            self.attempt_both(&model, |groups| groups.iter_mut().for_each(|set| *set = squeeze(*set)))
+        })
     }
 
     /// The group without limits and marks, or with one of them fewer.

@@ -1,7 +1,7 @@
 -- `write_block` judges, then writes. Assumes nothing.
 use borrow.Author.Needs.{needs}
 use lib.ListN.{length}
-use Rattle.cnf.proofs.Entry.{written-refused, buffer-refused, judged-settled, judged-block, written-means}
+use Rattle.cnf.proofs.Entry.{written-refused, buffer-refused, judged-settled, judged-block, written-means, written-by-steps}
 use Rattle.cnf.proofs.write_block.Statement.{statement}
 use Rattle.cnf.proofs.write_block.Tie as tie
 
@@ -13,7 +13,8 @@ returns c =
     let a = c .before .before .before .args in
     let e = c .before .judged .ensures in
     let w = written-refused (a .m) (a .b) (length (a .buf .now)) _ e (c .if1 .taken) in
-    (w, (buffer-refused (a .m) (a .b) _ _ e (c .if1 .taken), written-means (a .m) (a .b) (length (a .buf .now)) _ w))
+    let h = buffer-refused (a .m) (a .b) _ _ e (c .if1 .taken) in
+    (w, (h, (written-means (a .m) (a .b) (length (a .buf .now)) _ w, written-by-steps (a .m) (a .b) (a .buf .now) _ _ w h)))
 
 whole-requires : tie.Need-whole-requires
 whole-requires c κs = search needs
@@ -32,7 +33,7 @@ returns-2 : tie.Need-returns-2
 returns-2 c =
     let a = c .before .before .before .before .before .before .before .before .before .before .args in
     let e = c .before .before .write-settled .ensures in
-    (e .0, (e .1, written-means (a .m) (a .b) (length (a .buf .now)) _ (e .0)))
+    (e .0, (e .1, (written-means (a .m) (a .b) (length (a .buf .now)) _ (e .0), written-by-steps (a .m) (a .b) (a .buf .now) _ _ (e .0) (e .1))))
 
 pub write-block-spec : {M : Type 1} → statement M
 write-block-spec = tie.close (tie.spec judged-requires returns whole-requires write-settled-requires same-length returns-2)

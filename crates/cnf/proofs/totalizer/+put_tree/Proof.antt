@@ -2,15 +2,16 @@
 use mathlib.Core.Path.{refl, sym, ap, _∙_}
 use Rattle.text.proofs.Writes.{done, then, same-text}
 use Rattle.encoding_laws.proofs.Counts.{output-count-step}
+use Rattle.numbering.proofs.Totalizers.{within-word}
 use Rattle.cnf.proofs.Trees.{tree-one, tree-text, tree-length, small}
 use native.Mathlib.Omega.{arith}
-use Prim.Native.Nat.{ℕ, _+_, _<_}
+use Prim.Native.Nat.{ℕ, _+_, _-_, _/_, _<_}
 use borrow.Fn.Kinds.{In}
 use borrow.Fn.PlainCycle.{Measures, is, falls, and}
 use Rattle.cnf.proofs.totalizer.put_tree.Reads as put-tree
 use Rattle.cnf.proofs.totalizer.put_tree.Kinds as put-tree-kinds
 use Rattle.cnf.proofs.totalizer.+put_tree.Lts-put_tree as put-tree-lts
-use Rattle.cnf.proofs.totalizer.output_count.Reads as output-count-reads
+use Rattle.numbering.proofs.output_count.Reads as output-count-reads
 use Rattle.cnf.proofs.totalizer.put_node.Reads as put-node-reads
 use Rattle.cnf.proofs.totalizer.root.Reads as root-reads
 use Rattle.cnf.proofs.totalizer.+put_tree.{statement}
@@ -84,7 +85,7 @@ put-tree-add-p : (t : ℕ) → put-tree-lts.Need-add-p (
   put-node-reads.Asked,
   put-node-reads.Learnt,
 ) (put-tree-at t) put-tree.Post
-put-tree-add-p t c = omega (arith, output-count-step (c .before .before .before .args .m) (c .before .if1 .left), (c .output-count .ensures))
+put-tree-add-p t c = omega (arith, output-count-step (c .before .before .before .args .m) (c .before .if1 .left), (c .output-count .ensures ∙ within-word (c .before .before .before .args .m / 2) (omega arith)))
 
 put-tree-output-count-requires-2 : (t : ℕ) → put-tree-lts.Need-output-count-requires-2 (
   output-count-reads.Asked,
@@ -98,7 +99,7 @@ put-tree-output-count-requires-2 : (t : ℕ) → put-tree-lts.Need-output-count-
 ) (put-tree-at t) put-tree.Post
 put-tree-output-count-requires-2 t c κs = omega arith
 
-put-tree-add-own : (t : ℕ) → put-tree-lts.Need-add-own (
+put-tree-add-n : (t : ℕ) → put-tree-lts.Need-add-n (
   output-count-reads.Asked,
   output-count-reads.Learnt,
   root-reads.Asked,
@@ -108,7 +109,7 @@ put-tree-add-own : (t : ℕ) → put-tree-lts.Need-add-own (
   put-node-reads.Asked,
   put-node-reads.Learnt,
 ) (put-tree-at t) put-tree.Post
-put-tree-add-own t c = omega (arith, output-count-step (c .before .before .before .before .args .m) (c .before .before .if1 .left), (c .before .output-count .ensures), (c .output-count2 .ensures))
+put-tree-add-n t c = omega (arith, output-count-step (c .before .before .before .before .args .m) (c .before .before .if1 .left), (c .before .output-count .ensures ∙ within-word (c .before .before .before .before .args .m / 2) (omega arith)), (c .output-count2 .ensures ∙ within-word (c .before .before .before .before .args .m - c .before .before .before .before .args .m / 2) (omega arith)))
 
 put-tree-root-requires : (t : ℕ) → put-tree-lts.Need-root-requires (
   output-count-reads.Asked,
@@ -132,7 +133,7 @@ put-tree-root-requires-2 : (t : ℕ) → put-tree-lts.Need-root-requires-2 (
   put-node-reads.Asked,
   put-node-reads.Learnt,
 ) (put-tree-at t) put-tree.Post
-put-tree-root-requires-2 t c κs = (omega arith, omega (arith, output-count-step (c .before .before .before .before .before .args .m) (c .before .before .before .if1 .left), (c .before .before .output-count .ensures)))
+put-tree-root-requires-2 t c κs = (omega arith, omega (arith, output-count-step (c .before .before .before .before .before .args .m) (c .before .before .before .if1 .left), (c .before .before .output-count .ensures ∙ within-word (c .before .before .before .before .before .args .m / 2) (omega arith))))
 
 put-tree-put-tree-requires : (t : ℕ) → put-tree-lts.Need-put-tree-requires (
   output-count-reads.Asked,
@@ -156,7 +157,7 @@ put-tree-put-tree-requires-2 : (t : ℕ) → put-tree-lts.Need-put-tree-requires
   put-node-reads.Asked,
   put-node-reads.Learnt,
 ) (put-tree-at t) put-tree.Post
-put-tree-put-tree-requires-2 t c κs = (omega arith, ((omega arith, omega arith, omega arith, omega (arith, output-count-step (c .before .before .before .before .before .before .before .before .before .before .before .args .m) (c .before .before .before .before .before .before .before .before .before .if1 .left), (c .before .before .before .before .before .before .before .before .output-count .ensures))), omega (arith, tree-length (c .before .before .before .before .before .before .before .before .before .before .before .args .m) (c .before .before .before .before .before .before .before .before .before .before .before .args .v) (c .before .before .before .before .before .before .before .before .before .before .before .args .o) ((c .before .before .before .before .before .before .before .before .before .before .before .args .o) + (c .before .before .before .before .before .before .before .before .output-count .result)) _ _ _ (c .before .before .before .before .before .before .before .before .before .if1 .left) (ap (λ (k : ℕ). (c .before .before .before .before .before .before .before .before .before .before .before .args .o) + k) (c .before .before .before .before .before .before .before .before .output-count .ensures)) refl refl refl, (c .before .before .before .put-tree .ensures .next), (c .before .before .before .put-tree .kept .0))))
+put-tree-put-tree-requires-2 t c κs = (omega arith, ((omega arith, omega arith, omega arith, omega (arith, output-count-step (c .before .before .before .before .before .before .before .before .before .before .before .args .m) (c .before .before .before .before .before .before .before .before .before .if1 .left), (c .before .before .before .before .before .before .before .before .output-count .ensures ∙ within-word (c .before .before .before .before .before .before .before .before .before .before .before .args .m / 2) (omega arith)))), omega (arith, tree-length (c .before .before .before .before .before .before .before .before .before .before .before .args .m) (c .before .before .before .before .before .before .before .before .before .before .before .args .v) (c .before .before .before .before .before .before .before .before .before .before .before .args .o) ((c .before .before .before .before .before .before .before .before .before .before .before .args .o) + (c .before .before .before .before .before .before .before .before .output-count .result)) _ _ _ (c .before .before .before .before .before .before .before .before .before .if1 .left) (ap (λ (k : ℕ). (c .before .before .before .before .before .before .before .before .before .before .before .args .o) + k) (c .before .before .before .before .before .before .before .before .output-count .ensures ∙ within-word (c .before .before .before .before .before .before .before .before .before .before .before .args .m / 2) (omega arith))) refl refl refl, (c .before .before .before .put-tree .ensures .next), (c .before .before .before .put-tree .kept .0))))
 
 put-tree-put-node-requires : (t : ℕ) → put-tree-lts.Need-put-node-requires (
   output-count-reads.Asked,
@@ -168,7 +169,7 @@ put-tree-put-node-requires : (t : ℕ) → put-tree-lts.Need-put-node-requires (
   put-node-reads.Asked,
   put-node-reads.Learnt,
 ) (put-tree-at t) put-tree.Post
-put-tree-put-node-requires t c κs = (small (c .before .before .before .before .before .before .before .before .before .before .before .before .before .before .before .args .m) (c .before .before .before .before .before .before .before .before .before .before .before .before .before .before .before .args .v) (c .before .before .before .before .before .before .before .before .before .before .before .before .before .before .before .args .o) ((c .before .before .before .before .before .before .before .before .before .before .before .before .before .before .before .args .o) + (c .before .before .before .before .before .before .before .before .before .before .before .before .output-count .result)) ((c .before .before .before .before .before .before .before .before .before .before .before .before .before .before .before .args .o) + (c .before .before .before .before .before .before .before .before .before .before .before .before .output-count .result) + (c .before .before .before .before .before .before .before .before .before .before .before .output-count2 .result)) (c .before .before .before .before .before .before .before .before .before .before .root .result) (c .before .before .before .before .before .before .before .before .before .root2 .result) (c .before .before .before .before .before .before .before .before .before .before .before .before .before .if1 .left) (ap (λ (k : ℕ). (c .before .before .before .before .before .before .before .before .before .before .before .before .before .before .before .args .o) + k) (c .before .before .before .before .before .before .before .before .before .before .before .before .output-count .ensures)) (ap (λ (k : ℕ). (c .before .before .before .before .before .before .before .before .before .before .before .before .before .before .before .args .o) + (c .before .before .before .before .before .before .before .before .before .before .before .before .output-count .result) + k) (c .before .before .before .before .before .before .before .before .before .before .before .output-count2 .ensures)) (c .before .before .before .before .before .before .before .before .before .before .root .ensures) (c .before .before .before .before .before .before .before .before .before .root2 .ensures) (omega arith) (omega arith), omega (arith, tree-length (c .before .before .before .before .before .before .before .before .before .before .before .before .before .before .before .args .m) (c .before .before .before .before .before .before .before .before .before .before .before .before .before .before .before .args .v) (c .before .before .before .before .before .before .before .before .before .before .before .before .before .before .before .args .o) ((c .before .before .before .before .before .before .before .before .before .before .before .before .before .before .before .args .o) + (c .before .before .before .before .before .before .before .before .before .before .before .before .output-count .result)) ((c .before .before .before .before .before .before .before .before .before .before .before .before .before .before .before .args .o) + (c .before .before .before .before .before .before .before .before .before .before .before .before .output-count .result) + (c .before .before .before .before .before .before .before .before .before .before .before .output-count2 .result)) (c .before .before .before .before .before .before .before .before .before .before .root .result) (c .before .before .before .before .before .before .before .before .before .root2 .result) (c .before .before .before .before .before .before .before .before .before .before .before .before .before .if1 .left) (ap (λ (k : ℕ). (c .before .before .before .before .before .before .before .before .before .before .before .before .before .before .before .args .o) + k) (c .before .before .before .before .before .before .before .before .before .before .before .before .output-count .ensures)) (ap (λ (k : ℕ). (c .before .before .before .before .before .before .before .before .before .before .before .before .before .before .before .args .o) + (c .before .before .before .before .before .before .before .before .before .before .before .before .output-count .result) + k) (c .before .before .before .before .before .before .before .before .before .before .before .output-count2 .ensures)) (c .before .before .before .before .before .before .before .before .before .before .root .ensures) (c .before .before .before .before .before .before .before .before .before .root2 .ensures), (c .before .before .before .before .before .before .before .put-tree .ensures .next), (c .before .before .before .put-tree2 .ensures .next), (c .before .before .before .before .before .before .before .put-tree .kept .0), (c .before .before .before .put-tree2 .kept .0), (c .before .before .before .before .before .before .before .before .before .before .before .before .before .before .before .pre .1 .1)))
+put-tree-put-node-requires t c κs = (small (c .before .before .before .before .before .before .before .before .before .before .before .before .before .before .before .args .m) (c .before .before .before .before .before .before .before .before .before .before .before .before .before .before .before .args .v) (c .before .before .before .before .before .before .before .before .before .before .before .before .before .before .before .args .o) ((c .before .before .before .before .before .before .before .before .before .before .before .before .before .before .before .args .o) + (c .before .before .before .before .before .before .before .before .before .before .before .before .output-count .result)) ((c .before .before .before .before .before .before .before .before .before .before .before .before .before .before .before .args .o) + (c .before .before .before .before .before .before .before .before .before .before .before .before .output-count .result) + (c .before .before .before .before .before .before .before .before .before .before .before .output-count2 .result)) (c .before .before .before .before .before .before .before .before .before .before .root .result) (c .before .before .before .before .before .before .before .before .before .root2 .result) (c .before .before .before .before .before .before .before .before .before .before .before .before .before .if1 .left) (ap (λ (k : ℕ). (c .before .before .before .before .before .before .before .before .before .before .before .before .before .before .before .args .o) + k) (c .before .before .before .before .before .before .before .before .before .before .before .before .output-count .ensures ∙ within-word (c .before .before .before .before .before .before .before .before .before .before .before .before .before .before .before .args .m / 2) (omega arith))) (ap (λ (k : ℕ). (c .before .before .before .before .before .before .before .before .before .before .before .before .before .before .before .args .o) + (c .before .before .before .before .before .before .before .before .before .before .before .before .output-count .result) + k) (c .before .before .before .before .before .before .before .before .before .before .before .output-count2 .ensures ∙ within-word (c .before .before .before .before .before .before .before .before .before .before .before .before .before .before .before .args .m - c .before .before .before .before .before .before .before .before .before .before .before .before .before .before .before .args .m / 2) (omega arith))) (c .before .before .before .before .before .before .before .before .before .before .root .ensures) (c .before .before .before .before .before .before .before .before .before .root2 .ensures) (omega arith) (omega arith), omega (arith, tree-length (c .before .before .before .before .before .before .before .before .before .before .before .before .before .before .before .args .m) (c .before .before .before .before .before .before .before .before .before .before .before .before .before .before .before .args .v) (c .before .before .before .before .before .before .before .before .before .before .before .before .before .before .before .args .o) ((c .before .before .before .before .before .before .before .before .before .before .before .before .before .before .before .args .o) + (c .before .before .before .before .before .before .before .before .before .before .before .before .output-count .result)) ((c .before .before .before .before .before .before .before .before .before .before .before .before .before .before .before .args .o) + (c .before .before .before .before .before .before .before .before .before .before .before .before .output-count .result) + (c .before .before .before .before .before .before .before .before .before .before .before .output-count2 .result)) (c .before .before .before .before .before .before .before .before .before .before .root .result) (c .before .before .before .before .before .before .before .before .before .root2 .result) (c .before .before .before .before .before .before .before .before .before .before .before .before .before .if1 .left) (ap (λ (k : ℕ). (c .before .before .before .before .before .before .before .before .before .before .before .before .before .before .before .args .o) + k) (c .before .before .before .before .before .before .before .before .before .before .before .before .output-count .ensures ∙ within-word (c .before .before .before .before .before .before .before .before .before .before .before .before .before .before .before .args .m / 2) (omega arith))) (ap (λ (k : ℕ). (c .before .before .before .before .before .before .before .before .before .before .before .before .before .before .before .args .o) + (c .before .before .before .before .before .before .before .before .before .before .before .before .output-count .result) + k) (c .before .before .before .before .before .before .before .before .before .before .before .output-count2 .ensures ∙ within-word (c .before .before .before .before .before .before .before .before .before .before .before .before .before .before .before .args .m - c .before .before .before .before .before .before .before .before .before .before .before .before .before .before .before .args .m / 2) (omega arith))) (c .before .before .before .before .before .before .before .before .before .before .root .ensures) (c .before .before .before .before .before .before .before .before .before .root2 .ensures), (c .before .before .before .before .before .before .before .put-tree .ensures .next), (c .before .before .before .put-tree2 .ensures .next), (c .before .before .before .before .before .before .before .put-tree .kept .0), (c .before .before .before .put-tree2 .kept .0), (c .before .before .before .before .before .before .before .before .before .before .before .before .before .before .before .pre .1 .1)))
 
 put-tree-same-length : (t : ℕ) → put-tree-lts.Need-same-length (
   output-count-reads.Asked,
@@ -192,7 +193,7 @@ put-tree-returns-2 : (t : ℕ) → put-tree-lts.Need-returns-2 (
   put-node-reads.Asked,
   put-node-reads.Learnt,
 ) (put-tree-at t) put-tree.Post
-put-tree-returns-2 t c = same-text (sym (tree-text (c .before .before .before .before .before .before .before .before .before .before .before .before .before .before .before .before .before .before .args .m) (c .before .before .before .before .before .before .before .before .before .before .before .before .before .before .before .before .before .before .args .v) (c .before .before .before .before .before .before .before .before .before .before .before .before .before .before .before .before .before .before .args .o) ((c .before .before .before .before .before .before .before .before .before .before .before .before .before .before .before .before .before .before .args .o) + (c .before .before .before .before .before .before .before .before .before .before .before .before .before .before .before .output-count .result)) ((c .before .before .before .before .before .before .before .before .before .before .before .before .before .before .before .before .before .before .args .o) + (c .before .before .before .before .before .before .before .before .before .before .before .before .before .before .before .output-count .result) + (c .before .before .before .before .before .before .before .before .before .before .before .before .before .before .output-count2 .result)) (c .before .before .before .before .before .before .before .before .before .before .before .before .before .root .result) (c .before .before .before .before .before .before .before .before .before .before .before .before .root2 .result) (c .before .before .before .before .before .before .before .before .before .before .before .before .before .before .before .before .if1 .left) (ap (λ (k : ℕ). (c .before .before .before .before .before .before .before .before .before .before .before .before .before .before .before .before .before .before .args .o) + k) (c .before .before .before .before .before .before .before .before .before .before .before .before .before .before .before .output-count .ensures)) (ap (λ (k : ℕ). (c .before .before .before .before .before .before .before .before .before .before .before .before .before .before .before .before .before .before .args .o) + (c .before .before .before .before .before .before .before .before .before .before .before .before .before .before .before .output-count .result) + k) (c .before .before .before .before .before .before .before .before .before .before .before .before .before .before .output-count2 .ensures)) (c .before .before .before .before .before .before .before .before .before .before .before .before .before .root .ensures) (c .before .before .before .before .before .before .before .before .before .before .before .before .root2 .ensures))) (then (then (c .before .before .before .before .before .before .before .before .before .before .put-tree .ensures) (c .before .before .before .before .before .before .put-tree2 .ensures)) (c .before .before .put-node .ensures))
+put-tree-returns-2 t c = same-text (sym (tree-text (c .before .before .before .before .before .before .before .before .before .before .before .before .before .before .before .before .before .before .args .m) (c .before .before .before .before .before .before .before .before .before .before .before .before .before .before .before .before .before .before .args .v) (c .before .before .before .before .before .before .before .before .before .before .before .before .before .before .before .before .before .before .args .o) ((c .before .before .before .before .before .before .before .before .before .before .before .before .before .before .before .before .before .before .args .o) + (c .before .before .before .before .before .before .before .before .before .before .before .before .before .before .before .output-count .result)) ((c .before .before .before .before .before .before .before .before .before .before .before .before .before .before .before .before .before .before .args .o) + (c .before .before .before .before .before .before .before .before .before .before .before .before .before .before .before .output-count .result) + (c .before .before .before .before .before .before .before .before .before .before .before .before .before .before .output-count2 .result)) (c .before .before .before .before .before .before .before .before .before .before .before .before .before .root .result) (c .before .before .before .before .before .before .before .before .before .before .before .before .root2 .result) (c .before .before .before .before .before .before .before .before .before .before .before .before .before .before .before .before .if1 .left) (ap (λ (k : ℕ). (c .before .before .before .before .before .before .before .before .before .before .before .before .before .before .before .before .before .before .args .o) + k) (c .before .before .before .before .before .before .before .before .before .before .before .before .before .before .before .output-count .ensures ∙ within-word (c .before .before .before .before .before .before .before .before .before .before .before .before .before .before .before .before .before .before .args .m / 2) (omega arith))) (ap (λ (k : ℕ). (c .before .before .before .before .before .before .before .before .before .before .before .before .before .before .before .before .before .before .args .o) + (c .before .before .before .before .before .before .before .before .before .before .before .before .before .before .before .output-count .result) + k) (c .before .before .before .before .before .before .before .before .before .before .before .before .before .before .output-count2 .ensures ∙ within-word (c .before .before .before .before .before .before .before .before .before .before .before .before .before .before .before .before .before .before .args .m - c .before .before .before .before .before .before .before .before .before .before .before .before .before .before .before .before .before .before .args .m / 2) (omega arith))) (c .before .before .before .before .before .before .before .before .before .before .before .before .before .root .ensures) (c .before .before .before .before .before .before .before .before .before .before .before .before .root2 .ensures))) (then (then (c .before .before .before .before .before .before .before .before .before .before .put-tree .ensures) (c .before .before .before .before .before .before .put-tree2 .ensures)) (c .before .before .put-node .ensures))
 
 pub +put-tree-spec : {M : Type 1} → statement M
 +put-tree-spec = close μ-put-tree λ t. put-tree-lts.spec (
@@ -213,7 +214,7 @@ pub +put-tree-spec : {M : Type 1} → statement M
     (put-tree-output-count-requires t)
     (put-tree-add-p t)
     (put-tree-output-count-requires-2 t)
-    (put-tree-add-own t)
+    (put-tree-add-n t)
     (put-tree-root-requires t)
     (put-tree-root-requires-2 t)
     (put-tree-put-tree-requires t)

@@ -23,7 +23,7 @@ loop-holds c = (omega arith, done _ _ (omega arith))
 
 put-row-requires : tie.Need-put-row-requires Inv-loop μ-loop
 unfolding nodeText
-put-row-requires c κs = ((c .before .before .before .before .before .pre .0), (omega arith, room (rowText (c .before .before .before .before .before .args .t)) (c .before .before .loop .p) ((c .before .before .before .before .before .args .t .left) + 1) (c .before .before .loop .inv .1) (c .before .loop-test .taken) (c .before .before .before .before .before .pre .1)))
+put-row-requires c κs = ((c .before .before .before .before .before .pre .0), (omega arith, room (rowText (c .before .before .before .before .before .args .t)) (c .before .before .loop .p) ((c .before .before .before .before .before .args .t .a) + 1) (c .before .before .loop .inv .1) (c .before .loop-test .taken) (c .before .before .before .before .before .pre .1)))
 
 add-p : tie.Need-add-p Inv-loop μ-loop
 add-p c = omega arith
@@ -39,7 +39,7 @@ same-length c = kept (c .before .loop .inv .1)
 
 returns : tie.Need-returns Inv-loop μ-loop
 unfolding nodeText
-returns c = let e : (c .before .loop .p) ≡ (c .before .before .before .before .args .t .left) + 1 = omega arith in same-text (ap (λ (k : ℕ). each (rowText (c .before .before .before .before .args .t)) (range 0 k)) e) (c .before .loop .inv .1)
+returns c = let e : (c .before .loop .p) ≡ (c .before .before .before .before .args .t .a) + 1 = omega arith in same-text (ap (λ (k : ℕ). each (rowText (c .before .before .before .before .args .t)) (range 0 k)) e) (c .before .loop .inv .1)
 
 pub put-node-spec : {M : Type 1} → statement M
 put-node-spec =
