@@ -195,6 +195,84 @@ def bridge_too_few_places():
     return sheet
 
 
+# the groups of the mixed weekend, on which both committees agreed: the men and the ladies of the club, the flights of Saturday and Sunday, the men and the ladies in each of them,
+# all who play on Saturday and on Sunday, and for each flight of Saturday beside each of Sunday the men who are in both, and the ladies
+THE_MEN, THE_LADIES = 1, 2
+SATURDAY, SUNDAY = range(3, 7), range(7, 11)
+MEN_IN_FLIGHTS, LADIES_IN_FLIGHTS = range(11, 19), range(19, 27)
+ON_SATURDAY, ON_SUNDAY = 27, 28
+MEN_AGAIN, LADIES_AGAIN = range(29, 45), range(45, 61)
+
+
+class Committee:
+    """What a committee wants of the mixed weekend: of some groups marks and limits, and lines. Its members are half of the sixteen."""
+
+    def __init__(self, members, whole, in_flights, again):
+        self.groups, self.lines = {}, []
+        self.want(whole, 8, 8, fixed=members, barred=set(range(1, 17)) - set(members))
+        for flight, own in zip([*SATURDAY, *SUNDAY], in_flights):
+            self.want(own, 2, 2)
+            self.lines.append((BOTH, own, flight, whole))
+        for number, (f, g) in zip(again, itertools.product(in_flights[:4], in_flights[4:])):
+            self.want(number, 0, 1)
+            self.lines.append((BOTH, number, f, g))
+
+    def want(self, number, low, high, fixed=(), barred=()):
+        self.groups[number] = (low, high, set(fixed), set(barred))
+
+
+def mixed_men():
+    """The men, 1 to 8: two in each flight, no two of them in one flight twice, no flight of more than four. They see to Saturday: all sixteen play.
+    1, the captain, is in the first flight on both days; 5 has to leave early on Sunday, so not in the last two flights; 3 and 4 go together in Saturday's third."""
+    men = Committee(range(1, 9), THE_MEN, MEN_IN_FLIGHTS, MEN_AGAIN)
+    fixed = {SATURDAY[0]: [1], SUNDAY[0]: [1], SATURDAY[2]: [3, 4]}
+    barred = {SUNDAY[2]: [5], SUNDAY[3]: [5]}
+    for flight in [*SATURDAY, *SUNDAY]:
+        men.want(flight, 0, 4, fixed.get(flight, ()), barred.get(flight, ()))
+    men.want(ON_SATURDAY, 16, 16)
+    men.lines.append((UNION, ON_SATURDAY, *SATURDAY))
+    return men
+
+
+def mixed_ladies(fixed={}, barred={}, on_saturday=(2, 2)):
+    """The ladies, 9 to 16: two in each flight, no two of them in one flight twice, no flight of fewer than four. They see to Sunday: all sixteen play.
+    9, the ladies' captain, is in the second flight on both days; 12 comes late on Saturday, so not in the first two flights; 14 and 15 go together in Sunday's third.
+    Beside that, more marks, or other limits of the ladies in a flight on Saturday."""
+    ladies = Committee(range(9, 17), THE_LADIES, LADIES_IN_FLIGHTS, LADIES_AGAIN)
+    fixed = {SATURDAY[1]: [9], SUNDAY[1]: [9], SUNDAY[2]: [14, 15], **fixed}
+    barred = {SATURDAY[0]: [12], SATURDAY[1]: [12], **barred}
+    for flight in [*SATURDAY, *SUNDAY]:
+        ladies.want(flight, 4, 16, fixed.get(flight, ()), barred.get(flight, ()))
+    for own in LADIES_IN_FLIGHTS[:4]:
+        ladies.want(own, *on_saturday)
+    ladies.want(ON_SUNDAY, 16, 16)
+    ladies.lines.append((UNION, ON_SUNDAY, *SUNDAY))
+    return ladies
+
+
+def mixed_promise():
+    """The ladies' first draft: the same, and 5 is promised as a partner in Sunday's last flight."""
+    return mixed_ladies(fixed={SUNDAY[3]: [5]})
+
+
+def mixed_early():
+    """The ladies have a dinner on Saturday, and none is in the last flight; up to three are in each of the others. By itself that can be done: four men are left to the last one."""
+    return mixed_ladies(barred={SATURDAY[3]: range(9, 17)}, on_saturday=(0, 3))
+
+
+def mixed(*committees):
+    """The mixed weekend as the committees want it together: sixteen golfers, four flights on each day."""
+    sheet = Sheet(16)
+    for number in range(1, 61):
+        wanted = [(0, 16, set(), set())] + [committee.groups[number] for committee in committees if number in committee.groups]
+        lows, highs, fixed, barred = zip(*wanted)
+        sheet.group(max(lows), min(highs), fixed=set().union(*fixed), barred=set().union(*barred))
+    for committee in committees:
+        for line in committee.lines:
+            sheet.line(*line)
+    return sheet
+
+
 SHEETS = {
     "golf-3-3-4": (golfers(3, 3, 4), "draw"),
     "golf-3-3-5": (golfers(3, 3, 5), "no draw"),
@@ -210,6 +288,12 @@ SHEETS = {
     "bridge-five-at-a-table": (bridge_five_at_a_table(), "no draw, settled out"),
     "bridge-pairs-within-tables": (bridge_pairs_within_tables(), "draw"),
     "bridge-too-few-places": (bridge_too_few_places(), "no draw, settled out"),
+    "golf-mixed-men": (mixed(mixed_men()), "draw"),
+    "golf-mixed-ladies": (mixed(mixed_ladies()), "draw"),
+    "golf-mixed": (mixed(mixed_men(), mixed_ladies()), "draw"),
+    "golf-mixed-ladies-promise": (mixed(mixed_promise()), "draw"),
+    "golf-mixed-ladies-early": (mixed(mixed_early()), "draw"),
+    "golf-mixed-early": (mixed(mixed_men(), mixed_early()), "no draw"),
 }
 # draws to start from
 GROUPS = {name: bridge_last_season() for name in ("bridge-next-season", "bridge-next-season-5-away")}

@@ -3,6 +3,7 @@ pub mod answer;
 pub mod certificate;
 pub mod clauses;
 pub mod close;
+pub mod combine;
 pub mod compare;
 pub mod encode;
 pub mod fill;

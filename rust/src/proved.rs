@@ -14,6 +14,8 @@ extern "C" {
     fn draw_close_model(words: *const u64, words_len: usize, closed: u32, marks: *const u8, marks_len: usize, groups: *mut u64, groups_len: usize) -> u32;
     fn draw_fill_model(words: *const u64, words_len: usize, groups: *const u64, groups_len: usize, marks: *mut u8, marks_len: usize) -> u32;
     fn draw_write_model(words: *const u64, words_len: usize, buffer: *mut u8, buffer_len: usize) -> u64;
+    fn draw_combine(first: *const u8, first_len: usize, second: *const u8, second_len: usize, buffer: *mut u8, buffer_len: usize) -> u64;
+    fn draw_combine_model(first: *const u64, first_len: usize, second: *const u64, second_len: usize, words: *mut u64, words_len: usize) -> u32;
     fn draw_certify(
         sheet: *const u8,
         sheet_len: usize,
@@ -80,6 +82,14 @@ impl Calls for Proved {
 
     fn write_model(&self, words: &[u64], buffer: &mut [u8]) -> u64 {
         unsafe { draw_write_model(words.as_ptr(), words.len(), buffer.as_mut_ptr(), buffer.len()) }
+    }
+
+    fn combine(&self, first: &[u8], second: &[u8], buffer: &mut [u8]) -> u64 {
+        unsafe { draw_combine(first.as_ptr(), first.len(), second.as_ptr(), second.len(), buffer.as_mut_ptr(), buffer.len()) }
+    }
+
+    fn combine_model(&self, first: &[u64], second: &[u64], words: &mut [u64]) -> u32 {
+        unsafe { draw_combine_model(first.as_ptr(), first.len(), second.as_ptr(), second.len(), words.as_mut_ptr(), words.len()) }
     }
 
     fn certify(&self, sheet: &[u8], certificate: &[u8], lent: &mut Lent) -> u64 {

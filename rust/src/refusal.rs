@@ -24,3 +24,7 @@ pub const MARKS: u32 = 26;
 pub const UNSAID: u32 = 27;
 pub const FALSE_CLAUSE: u32 = 28;
 pub const NO_DRAW: u32 = 30;
+
+pub const OTHER_SIZE: u32 = 31;
+pub const CLASH: u32 = 32;
+pub const TOO_MANY_LINES: u32 = 33;

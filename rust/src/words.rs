@@ -3,8 +3,8 @@ use crate::model::*;
 use crate::refusal::OUT_OF_RANGE;
 
 const MEMBERS: usize = 1 + UNION_MAX as usize;
-const GROUP_WORDS: usize = 4;
-const LINE_WORDS: usize = 2 + MEMBERS;
+pub const GROUP_WORDS: usize = 4;
+pub const LINE_WORDS: usize = 2 + MEMBERS;
 pub const FIRST_GROUP: usize = 3;
 pub const FIRST_LINE: usize = FIRST_GROUP + GROUP_WORDS * GROUPS as usize;
 pub const WORDS: usize = FIRST_LINE + LINE_WORDS * LINES as usize;
@@ -62,22 +62,24 @@ pub fn from_words(words: &[u64]) -> Result<Model, u32> {
 }
 
 fn model_of(words: &[u64]) -> Option<Model> {
-    let word = |at: usize| words.get(at).copied().unwrap_or(0);
-    let number = |at: usize| word(at) as u32;
+    let number = |at: usize| words.get(at).copied().unwrap_or(0) as u32;
     let [n, s, c] = [0, 1, 2].map(number);
     if !(1..=ENTRANTS).contains(&n) || !(1..=GROUPS).contains(&s) || c > LINES {
         return None;
     }
-    let group = |index: u32| {
-        let at = FIRST_GROUP + GROUP_WORDS * index as usize;
-        group_of(n, Group { fixed: word(at), possible: word(at + 1), low: number(at + 2), high: number(at + 3) })
-    };
+    let group = |index: u32| group_of(n, group_at(words, index as usize));
     let line = |index: u32| {
         let at = FIRST_LINE + LINE_WORDS * index as usize;
         let members: Vec<u32> = (0..MEMBERS).map(|member| number(at + 2 + member)).collect();
         line_of(s, number(at), number(at + 1), &members)
     };
     Some(Model { entrants: n, groups: (0..s).map(group).collect::<Option<_>>()?, constraints: (0..c).map(line).collect::<Option<_>>()? })
+}
+
+/// A group as its words have it, in range or not.
+pub fn group_at(words: &[u64], index: usize) -> Group {
+    let word = |at: usize| words.get(FIRST_GROUP + GROUP_WORDS * index + at).copied().unwrap_or(0);
+    Group { fixed: word(0), possible: word(1), low: word(2) as u32, high: word(3) as u32 }
 }
 
 /// Entrants up to n, fixed within possible, low ≤ high ≤ n.

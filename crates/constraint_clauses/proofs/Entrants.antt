@@ -1,6 +1,6 @@
 -- A clause holds for all entrants at once exactly when it holds for each. Assumes nothing.
 use mathlib.Core.Path.{_≡_, refl, sym, ap, _∙_}
-use mathlib.Core.Bool.{Bool, true, false, not, _&&_, _||_}
+use mathlib.Core.Bool.{Bool, true, not, _&&_, _||_}
 use mathlib.Core.List.{List, [], _∷_}
 use Prim.Native.Nat.{ℕ, _<_}
 use native.Mathlib.Omega.{arith}
@@ -12,19 +12,13 @@ use Rattle.model.specs.Lists.{every, any, range}
 use Rattle.model.specs.Words.{full, has}
 use Rattle.model.specs.Solution.{setOf}
 use Rattle.model.proofs.Words.{has-zero, has-or, has-less, one-has, bit-full, full-lt, inside-words}
-use Rattle.model.proofs.Lists.{or-assoc, or-false, every-ext, every-range-ext}
+use Rattle.model.proofs.Lists.{and-interchange, or-assoc, or-false, every-ext, every-range-ext}
 use Rattle.propagation_laws.proofs.Meaning.{literalFor, clausesFor}
 use Rattle.constraint_clauses.specs.Holds.{literalWord, clauseWord, clauseHolds}
 
 every-and : {A : Type 0} (p q : A → Bool) (xs : List A) → (every p xs && every q xs) ≡ every (λ x. p x && q x) xs
 every-and p q [] = refl
-every-and p q (x ∷ xs) = shuffle (p x) (q x) (every p xs) (every q xs) ∙ ap (λ b. p x && q x && b) (every-and p q xs)
-  where
-    shuffle : (a b c d : Bool) → (a && c && (b && d)) ≡ (a && b && (c && d))
-    shuffle true true c d = refl
-    shuffle true false true d = refl
-    shuffle true false false d = refl
-    shuffle false b c d = refl
+every-and p q (x ∷ xs) = and-interchange (p x) (every p xs) (q x) (every q xs) ∙ ap (λ b. p x && q x && b) (every-and p q xs)
 
 every-true : {A : Type 0} (xs : List A) → true ≡ every (λ x. true) xs
 every-true [] = refl

@@ -1,9 +1,9 @@
 -- Filling and closing undo each other. Assumes nothing.
 use mathlib.Core.Path.{_≡_, refl, sym, ap, _∙_, subst}
-use Prim.Native.Nat.{ℕ, zero, suc, _-_}
+use Prim.Native.Nat.{ℕ, _-_}
 use native.Mathlib.Omega.{arith}
 use mathlib.Core.Bool.{Bool, true, false, not, _&&_}
-use mathlib.Core.List.{List, [], _∷_, _++_}
+use mathlib.Core.List.{List, _++_}
 use lib.Dec.{T, eqb, eqb→eq}
 use lib.ListN.{length, take, replicate, length-map}
 use lib.Seq.{take-at}
@@ -12,7 +12,7 @@ use Rattle.model.specs.declared.Model.{Model}
 use Rattle.model.specs.declared.Reading.{Reading}
 use Rattle.model.specs.Lists.{every, stop}
 use Rattle.model.specs.Limits.{limits}
-use Rattle.model.specs.Model.{constraintsOf, constraintSized, membersSized, inRange}
+use Rattle.model.specs.Model.{constraintsOf, constraintSized, membersSized, Whole, inRange}
 use Rattle.model.specs.Propagate.{isFixpoint, Settled}
 use Rattle.model.specs.Cnf.{variableCount}
 use Rattle.model.specs.Assignment.{isSaid}
@@ -20,23 +20,18 @@ use Rattle.model.specs.Close.{satisfying, groupBy, groupsBy, closedGroups, assi
 use Rattle.model.specs.Solution.{isSolution}
 use Rattle.model.specs.Fill.{assignmentFor, valuesOf, fillRefusal, filledValues}
 use Rattle.model.specs.Demand.{isAssignment, isSatisfying}
-use Rattle.model.proofs.Lists.{T-true, true-T, and-left, and-right, and-both, values-length}
+use Rattle.model.proofs.Lists.{T-true, true-T, and-left, and-right, and-both, every-take, values-length}
 use Rattle.model.proofs.Refusals.{settled-rest, unsettled-other}
 use Rattle.propagation_laws.proofs.Ranges.{in-range}
 use Rattle.encoding_laws.proofs.Values.{values-count, values-said, values-assign, assigned-values}
 use Rattle.encoding_laws.proofs.Whole.{one-for-one, filled-length, filled-groups, filled-satisfying}
-use Rattle.correctness.specs.Filling.{closedReading, Whole, Filled, Refilled, RoundTrips}
+use Rattle.correctness.specs.Filling.{closedReading, Filled, Refilled, RoundTrips}
 
 -- ---- what a call that is not refused has
 
 not-refused : (b : Bool) (x rest : ℕ) → (x ≡ 0 → ⊥) → stop (not b) x rest ≡ 0 → T b × (rest ≡ 0)
 not-refused true x rest n e = (tt, e)
 not-refused false x rest n e = absurd (n e)
-
-every-take : {A : Type 0} (p : A → Bool) (k : ℕ) (xs : List A) → T (every p xs) → T (every p (take k xs))
-every-take p zero xs t = tt
-every-take p (suc k) [] t = tt
-every-take p (suc k) (x ∷ xs) t = and-both (p x) (every p (take k xs)) (and-left (p x) (every p xs) t) (every-take p k xs (and-right (p x) (every p xs) t))
 
 module _ (m : Model) (z : Whole m) where
   w : T (membersSized m)

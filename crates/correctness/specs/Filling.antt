@@ -10,7 +10,6 @@ use Rattle.model.specs.declared.Model.{Model}
 use Rattle.model.specs.declared.Reading.{Reading}
 use Rattle.model.specs.Lists.{every}
 use Rattle.model.specs.Limits.{limits}
-use Rattle.model.specs.Model.{constraintSized}
 use Rattle.model.specs.Assignment.{isSaid}
 use Rattle.model.specs.Close.{groupsBy, assignmentOf, closed}
 use Rattle.model.specs.Fill.{fillRefusal, filledValues}
@@ -19,12 +18,6 @@ use Rattle.model.specs.Demand.{isSatisfying}
 -- "the closing 0 taken as read"
 unfoldable pub closedReading : Reading
 closedReading = record { closed = true }
-
--- each list of a model has the length of the array that it stands for
-pub record Whole (m : Model) : Type 0 where
-  pub groups : length (m .groups) ≡ limits .groups
-  pub constraints : length (m .constraints) ≡ limits .constraints
-  pub members : T (every constraintSized (m .constraints))
 
 -- the values of a filling that is not refused
 pub record Filled (m : Model) (d values : List ℕ) : Type 0 where

@@ -9,19 +9,21 @@ use Rattle.model.specs.declared.Written.{Written}
 use Rattle.model.specs.declared.Written.the-variants.{Refused}
 use Rattle.model.specs.declared.Reading.{Reading}
 use Rattle.model.specs.declared.Closed.{Closed}
+use Rattle.model.specs.declared.Combined.{Combined}
 use Rattle.model.specs.Lists.{each}
 use Rattle.model.specs.Model.{tableOf}
 use Rattle.model.specs.Sheet.{readSheet}
 use Rattle.model.specs.Propagate.{propagated, refusedPropagation}
 use Rattle.model.specs.Text.{writtenBlock, blockBuffer}
-use Rattle.model.specs.SheetText.{writtenSheet}
+use Rattle.model.specs.SheetText.{writtenSheet, sheetBuffer}
 use Rattle.model.specs.Assignment.{lineRead}
 use Rattle.model.specs.Close.{closed}
 use Rattle.model.specs.Fill.{fillRefusal, filledValues}
+use Rattle.model.specs.Combine.{combined}
 use Rattle.cnf.specs.declared.Run.{Run}
 use Rattle.cnf.specs.Run.{runOf, runBuffer}
 use Rattle.words.specs.Words.{setsFrom, modelFrom}
-use Rattle.packing.specs.Packing.{numbered, writtenNumber, runNumber, lineNumber, groupWords, noGroups, fittedClosing, groupsAfter}
+use Rattle.packing.specs.Packing.{numbered, writtenNumber, runNumber, lineNumber, groupWords, modelSize, modelLaid, noGroups, fittedClosing, groupsAfter}
 
 -- ---- reading
 
@@ -138,3 +140,34 @@ unfoldable pub drawValues : List ℕ → List ℕ → List ℕ → List ℕ
 drawValues sheet groups values =
     let p = settledSheet sheet in
     cond (eqb (p .refusal) 0) (filledValues (p .model) (setsFrom groups) values) values
+
+-- ---- combining two sheets, answered as a sheet is written: the first's refusal, the second's, then combining's
+
+unfoldable pub combinedSheets : List ℕ → List ℕ → Combined
+combinedSheets first second =
+    let a = readSheet first in
+    let b = readSheet second in
+    cond (eqb (a .refusal) 0)
+    (cond (eqb (b .refusal) 0) (combined (a .model) (b .model)) (record { refusal = b .refusal; model = b .model }))
+    (record { refusal = a .refusal; model = a .model })
+
+unfoldable pub drawCombine : List ℕ → List ℕ → ℕ → ℕ
+drawCombine first second room =
+    let r = combinedSheets first second in
+    writtenNumber (cond (eqb (r .refusal) 0) (writtenSheet (r .model) room) (Refused (r .refusal)))
+
+unfoldable pub drawCombined : List ℕ → List ℕ → List ℕ → List ℕ
+drawCombined first second buffer =
+    let r = combinedSheets first second in
+    cond (eqb (r .refusal) 0) (sheetBuffer (r .model) buffer) buffer
+
+-- and two models: the refusal, or the combined model's words; a slice without room for them is 24
+unfoldable pub modelCombine : List ℕ → List ℕ → ℕ → ℕ
+modelCombine first second room =
+    let r = combined (modelFrom first) (modelFrom second) in
+    cond (eqb (r .refusal) 0 && ltb room modelSize) 24 (r .refusal)
+
+unfoldable pub modelCombined : List ℕ → List ℕ → List ℕ → List ℕ
+modelCombined first second words =
+    let r = combined (modelFrom first) (modelFrom second) in
+    cond (eqb (r .refusal) 0) (modelLaid (r .model) words) words

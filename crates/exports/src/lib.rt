@@ -8,12 +8,13 @@ ghost use Rattle.model.specs.Text.{blockBuffer};
 ghost use Rattle.model.specs.SheetText.{sheetBuffer};
 ghost use Rattle.model.specs.Fill.{fillRefusal, filledValues};
 ghost use Rattle.words.specs.Words.{setsFrom, modelFrom};
-ghost use Rattle.exports.specs.Draw.{drawRead, settledSheet, fitted, settleNumber, tableAfter, drawSettle, drawTable, modelSettle, modelTable, drawBlock, drawBuffer, modelBlock, modelSheet, drawBlocks, drawRun, readingOf, drawLine, closedSheet, drawClose, drawGroups, modelClose, modelGroups, drawFill, drawValues};
+ghost use Rattle.exports.specs.Draw.{drawRead, settledSheet, fitted, settleNumber, tableAfter, drawSettle, drawTable, modelSettle, modelTable, drawBlock, drawBuffer, modelBlock, modelSheet, drawBlocks, drawRun, readingOf, drawLine, closedSheet, drawClose, drawGroups, modelClose, modelGroups, drawFill, drawValues, combinedSheets, drawCombine, drawCombined, modelCombine, modelCombined};
 ghost use Rattle.certificate.specs.declared.Opening.the-variants.{Open};
 ghost use Rattle.certificate.specs.NoDraw.{openingOf};
 ghost use Rattle.exports.specs.Certify.{verdictNumber, Judged};
 use certificate::Verdict;
 use model::Closed;
+use model::Combined;
 use model::Model;
 use model::Propagated;
 use model::Reading;
@@ -215,6 +216,65 @@ pub extern "C" fn draw_fill_model(words: &[u64], groups: &[u64], values: &mut [u
     let m = words::model_from(words);
     let sets = words::sets_from(groups);
     filling::fill(m, sets, values)
+}
+
+// ---- combining
+
+// The combined model of two sheets; or the reader's refusal of the first, then of the second, or the refusal of combining.
+fn combined_sheets(first: &[u8], second: &[u8]) -> Combined
+    ensures { λ r. ⌜ r ≡ combinedSheets (now (first .entry)) (now (second .entry)) ⌝ }
+{
+    let a = sheet::read_sheet(first);
+    let m = a.model;
+    if a.refusal != 0 {
+        return Combined {
+            refusal: a.refusal,
+            model: m,
+        };
+    }
+    let b = sheet::read_sheet(second);
+    let n = b.model;
+    if b.refusal != 0 {
+        return Combined {
+            refusal: b.refusal,
+            model: n,
+        };
+    }
+    combine::combine(m, n)
+}
+
+// The combined sheet of two: refusal * 4294967296 + length.
+#[no_mangle]
+pub extern "C" fn draw_combine(first: &[u8], second: &[u8], buffer: &mut [u8]) -> u64
+    ensures { λ r. ⌜ r ≡ drawCombine (now (first .entry)) (now (second .entry)) (length (now (buffer .entry))) ⌝ }
+    ensures { λ r. ⌜ now (buffer .exit) ≡ drawCombined (now (first .entry)) (now (second .entry)) (now (buffer .entry)) ⌝ }
+{
+    let r = combined_sheets(first, second);
+    if r.refusal != 0 {
+        return packing::written_number(Written::Refused(r.refusal));
+    }
+    let m = r.model;
+    let w = sheet_writer::write_sheet(m, buffer);
+    packing::written_number(w)
+}
+
+// The refusal, or 0 and the combined model's words. A slice without room for them is 24.
+#[no_mangle]
+pub extern "C" fn draw_combine_model(first: &[u64], second: &[u64], words: &mut [u64]) -> u32
+    ensures { λ r. ⌜ r ≡ modelCombine (now (first .entry)) (now (second .entry)) (length (now (words .entry))) ⌝ }
+    ensures { λ r. ⌜ now (words .exit) ≡ modelCombined (now (first .entry)) (now (second .entry)) (now (words .entry)) ⌝ }
+{
+    let a = words::model_from(first);
+    let b = words::model_from(second);
+    let r = combine::combine(a, b);
+    if r.refusal != 0 {
+        return r.refusal;
+    }
+    let m = r.model;
+    if !packing::put_model(m, words) {
+        return 24;
+    }
+    0
 }
 
 // ---- a certificate

@@ -8,9 +8,8 @@ use borrow.Author.Tests.{eq-eqb, ne-eqb}
 use lib.Dec.{T, eqb}
 use lib.ListN.{length, take, length-append, drop-of-length-le}
 use Rattle.model.specs.declared.Model.{Model}
-use Rattle.model.specs.Lists.{every, eachPair, stop}
-use Rattle.model.specs.Limits.{limits}
-use Rattle.model.specs.Model.{tableOf, constraintSized, inRange}
+use Rattle.model.specs.Lists.{eachPair, stop}
+use Rattle.model.specs.Model.{tableOf, Whole, inRange}
 use Rattle.model.specs.Propagate.{isFixpoint, unsettledOr, Settled}
 use Rattle.model.specs.Cnf.{variableCount}
 use Rattle.model.specs.Solution.{isSolution}
@@ -20,14 +19,10 @@ use Rattle.model.proofs.Refusals.{settled-rest, rest-settled, unsettled-first}
 use Rattle.propagation_laws.proofs.Ranges.{in-range}
 use Rattle.encoding_laws.proofs.Values.{values-count, values-append}
 use Rattle.encoding_laws.proofs.Whole.{filled-length}
-use Rattle.correctness.specs.Filling.{Whole, RoundTrips}
+use Rattle.correctness.specs.Filling.{RoundTrips}
 use Rattle.correctness.proofs.Filling.{round-trips}
 use Rattle.text.specs.Put.{Wrote}
 use Rattle.text.proofs.Writes.{then}
-
--- what the code knows of a model's arrays
-pub whole-of : (m : Model) → (length (m .groups) ≡ limits .groups) × (length (m .constraints) ≡ limits .constraints) × T (every constraintSized (m .constraints)) → Whole m
-whole-of m l = record { groups = l .0; constraints = l .1; members = l .2 }
 
 module _ (m : Model) (s : Whole m) (words values : List ℕ) where
   abbrev Answer : ℕ → List ℕ → Type 0

@@ -8,13 +8,13 @@ ghost use Rattle.model.specs.Words.{size};
 ghost use Rattle.model.specs.Propagate.{groupRule, groupConsistent, sameGroup};
 use model::Group;
 
-fn larger(a: u32, b: u32) -> u32
+pub fn larger(a: u32, b: u32) -> u32
     ensures { λ r. ⌜ r ≡ max a b ⌝ }
 {
     if a < b { b } else { a }
 }
 
-fn smaller(a: u32, b: u32) -> u32
+pub fn smaller(a: u32, b: u32) -> u32
     ensures { λ r. ⌜ r ≡ min a b ⌝ }
 {
     if a < b { a } else { b }

@@ -1,5 +1,5 @@
 -- The starred examples A to I of document 01, as request 1 has them, proved together as one table over the definitions; the limits of each code,
--- fillings, the printed steps of a node, the published DIMACS samples and blank marks beside them. Assumes nothing.
+-- fillings, the printed steps of a node, the published DIMACS samples, blank marks and two committees' sheets beside them. Assumes nothing.
 use mathlib.Core.Path.{_≡_, refl}
 use Prim.Native.Nat.{ℕ, _-_}
 use Prim.Native.Char.{code}
@@ -8,15 +8,16 @@ use mathlib.Core.Bool.{Bool, false, _&&_}
 use mathlib.Core.List.{List, [], _∷_, _++_, map, List·Memᴰ, List·Memᴰ·not-nil}
 use mathlib.Core.Option.{Option, none, some}
 use lib.Dec.{T, leb, eqb, leb→le}
-use lib.ListN.{length, replicate}
+use lib.ListN.{length, replicate, getD}
 use Rattle.model.specs.declared.Literal.{Literal}
 use Rattle.model.specs.declared.Literal.the-variants.{Pos, Neg}
 use Rattle.model.specs.declared.Term.the-variants.{Holds, Fails, Open}
 use Rattle.model.specs.declared.Node.{Node}
+use Rattle.model.specs.declared.Constraint.{Constraint}
 use Rattle.model.specs.declared.Model.{Model}
 use Rattle.model.specs.declared.Closed.{Closed}
 use Rattle.model.specs.Lists.{every, each, pairwise, range}
-use Rattle.model.specs.Model.{tableOf, inRange}
+use Rattle.model.specs.Model.{zeroConstraint, tableOf, inRange}
 use Rattle.model.specs.Sheet.{readSheet}
 use Rattle.model.specs.Propagate.{propagated, sameTable, isFixpoint}
 use Rattle.model.specs.Totalizer.{formed, putIn, dropped, shape, nodes, treeClauseCount, treeOutputCount}
@@ -28,6 +29,7 @@ use Rattle.model.specs.Assignment.{lineRead, valuesAfter}
 use Rattle.model.specs.Close.{closed}
 use Rattle.model.specs.Solution.{isSolution, solutions}
 use Rattle.model.specs.Fill.{fillRefusal, filledValues}
+use Rattle.model.specs.Combine.{combined}
 use Rattle.model.specs.Demand.{freshReading, isCandidate}
 use Rattle.model.specs.Defs.{defs}
 use Rattle.model.proofs.Lists.{and-left, and-right}
@@ -455,3 +457,88 @@ blankTable = blanksAsOnes && blankLimits && blankElsewhere && blankLines
 pub blanks : T blankTable
 unfolding defs bytes same readsAs sheetA headA firstA secondA lineA blanksAsOnes blankLimits blankElsewhere blankLines blankTable
 blanks = tt
+
+-- ---- two committees (request 5): the combined sheet, either way round; then each refusal, and which comes first
+
+-- the answer of combining, its model as a sheet; that of the zero model is a head of zeros
+combinesAs : Model → Model → ℕ → String → Bool
+combinesAs a b r text = let x = combined a b in eqb (x .refusal) r && writesAs (x .model) text
+
+noSheet : String
+noSheet = "   1   0   0   0\n"
+
+men : String
+men = "   1   3   2   1\n   2   1   1   3   2   1   1\n   2   2   0   2   1   1   0\n   3   2   1   2\n"
+
+ladies : String
+ladies = "   1   3   2   1\n   2   1   0   2   1   2   1\n   2   2   1   3   1   1   1\n   3   1   2   1\n"
+
+bothWays : Bool
+bothWays =
+    combinesAs (modelOf men) (modelOf ladies) 0
+    "   1   3   2   2\n   2   1   1   2   2   2   1\n   2   2   1   2   1   1   0\n   3   2   1   2\n   3   1   2   1\n"
+    && combinesAs (modelOf ladies) (modelOf men) 0
+    "   1   3   2   2\n   2   1   1   2   2   2   1\n   2   2   1   2   1   1   0\n   3   1   2   1\n   3   2   1   2\n"
+
+-- the model with k lines, all alike, with a count that code 2 does not have and a group past its own
+withLines : Model → ℕ → Model
+withLines m k =
+    let l : Constraint = record { code = 2; count = 5; groups = 1 ∷ 2 ∷ replicate 15 9 } in
+    record { n = m .n; s = m .s; c = k; groups = m .groups; constraints = replicate k l }
+
+cleanLine : Bool
+cleanLine =
+    let l = getD (combined (modelOf men) (withLines (modelOf ladies) 1) .model .constraints) 1 zeroConstraint in
+    eqb (l .code) 2 && eqb (l .count) 0 && same (l .groups) (1 ∷ 2 ∷ replicate 15 0)
+
+-- one group of two entrants, and the sheets of another n, of another s, that bar, that fix, that want more, that want fewer
+plain : String
+plain = "   1   2   1   0\n   2   1   0   2   1   1\n"
+
+three : String
+three = "   1   3   1   0\n   2   1   0   2   1   1   1\n"
+
+twice : String
+twice = "   1   2   2   0\n   2   1   0   2   2   1\n   2   2   0   2   1   1\n"
+
+bars : String
+bars = "   1   2   1   0\n   2   1   0   2   1   0\n"
+
+fixes : String
+fixes = "   1   2   1   0\n   2   1   0   2   1   2\n"
+
+more : String
+more = "   1   2   1   0\n   2   1   2   2   1   1\n"
+
+fewer : String
+fewer = "   1   2   1   0\n   2   1   0   1   1   1\n"
+
+refusedAs : ℕ → Model → Model → Bool
+refusedAs r a b = combinesAs a b r noSheet && combinesAs b a r noSheet
+
+eachRefused : Bool
+eachRefused =
+    refusedAs 31 (modelOf plain) (modelOf three) && refusedAs 31 (modelOf plain) (modelOf twice)
+    && refusedAs 32 (modelOf bars) (modelOf fixes) && refusedAs 32 (modelOf more) (modelOf fewer)
+    && combinesAs (modelOf more) (modelOf more) 0 more && combinesAs (modelOf fixes) (modelOf plain) 0 fixes
+
+-- bars in group 1 what the men, and the two groups above, fix there
+clashing : String
+clashing = "   1   3   2   0\n   2   1   0   2   0   1   1\n   2   2   0   3   1   1   1\n"
+
+-- 256 lines in all are fine and 257 are not; 32 before 33, 31 before both, and 20, of lines that name a group 2 where there is one, before 31
+inOrder : Bool
+inOrder =
+    let m = modelOf twice in
+    eqb (combined (withLines m 256) m .refusal) 0 && eqb (combined (withLines m 129) (withLines m 127) .refusal) 0
+    && refusedAs 33 (withLines m 256) (withLines m 1) && refusedAs 33 (withLines m 129) (withLines m 128)
+    && refusedAs 32 (withLines (modelOf men) 256) (withLines (modelOf clashing) 1)
+    && refusedAs 31 (withLines m 256) (withLines (modelOf clashing) 1)
+    && refusedAs 20 (withLines (modelOf plain) 1) (modelOf three)
+
+pub combineTable : Bool
+combineTable = bothWays && cleanLine && eachRefused && inOrder
+
+pub combinings : T combineTable
+unfolding defs bytes same modelOf writesAs combinesAs noSheet men ladies bothWays withLines cleanLine plain three twice bars fixes more fewer refusedAs eachRefused clashing inOrder combineTable
+combinings = tt

@@ -9,7 +9,7 @@ use native.Mathlib.Decide.{decLt, ℕ-discrete}
 use mathlib.Core.Bool.{Bool, true, false, not, _&&_, _||_, Bool·beq}
 use mathlib.Core.List.{List, [], _∷_, _++_, map, append-assoc, append-nil, head-eq-of-cons-eq, tail-eq-of-cons-eq, List·Memᴰ, List·Memᴰ·head, List·Memᴰ·tail, List·Permᴰ, List·Permᴰ·nil, List·Permᴰ·cons, List·Permᴰ·swap, List·Permᴰ·trans}
 use lib.Dec.{T, leb, leb→le, le→leb}
-use lib.ListN.{length, getD, set, take, drop, length-append, drop-of-length-le}
+use lib.ListN.{length, getD, set, take, drop, replicate, length-append, drop-of-length-le}
 use lib.Seq.{sets, sets-eq, take-at, set-at, append-snoc, drop-cons, take-suc, take-all, length-take-le}
 use Rattle.model.specs.Lists.{every, any, pairwise, those, each, total, range, onPlace, between}
 
@@ -47,6 +47,12 @@ T-ext false false f g = refl
 pub and-assoc : (a b c : Bool) → (a && b && c) ≡ (a && (b && c))
 and-assoc true b c = refl
 and-assoc false b c = refl
+
+pub and-interchange : (a b c d : Bool) → (a && b && (c && d)) ≡ (a && c && (b && d))
+and-interchange true true c d = refl
+and-interchange true false true d = refl
+and-interchange true false false d = refl
+and-interchange false b c d = refl
 
 pub or-assoc : (a b c : Bool) → (a || b || c) ≡ (a || (b || c))
 or-assoc true b c = refl
@@ -216,6 +222,11 @@ pub all-every : {A : Type 0} (p : A → Bool) (l : List A) → All (λ a. T (p a
 all-every p [] h = tt
 all-every p (x ∷ l) h = and-both (p x) (every p l) (h .0) (all-every p l (h .1))
 
+pub every-take : {A : Type 0} (p : A → Bool) (k : ℕ) (xs : List A) → T (every p xs) → T (every p (take k xs))
+every-take p zero xs t = tt
+every-take p (suc k) [] t = tt
+every-take p (suc k) (x ∷ xs) t = and-both (p x) (every p (take k xs)) (and-left (p x) (every p xs) t) (every-take p k xs (and-right (p x) (every p xs) t))
+
 -- ---- two lists of one length
 
 module _ {A : Type 0} (p : A → A → Bool) where
@@ -298,6 +309,14 @@ perm-length (List·Permᴰ·trans p q) = perm-length p ∙ perm-length q
 -- the first elements after a run of stores
 pub take-sets : {A : Type 0} (vs l : List A) (k : ℕ) → length vs ≡ k → k ≤ length l → take k (sets l 0 vs) ≡ vs
 take-sets vs l k e h = ap (take k) (sets-eq vs l 0 (omega arith)) ∙ take-at vs (drop (0 + length vs) l) k e
+
+-- one element more stored over a filling
+pub stored-next : {A : Type 0} (xs : List A) (n k : ℕ) (z x : A) → length xs ≡ k → k < n
+    → set (xs ++ replicate (n - k) z) k x ≡ (xs ++ (x ∷ [])) ++ replicate (n - (k + 1)) z
+stored-next xs n k z x e h =
+    let more : n - k ≡ suc (n - (k + 1)) = omega arith in
+    let rest = replicate (n - (k + 1)) z in
+    rw more (set-at xs z rest x k e ∙ sym (append-assoc xs (x ∷ []) rest))
 
 -- ---- k elements in front of the others
 

@@ -14,8 +14,9 @@ use Rattle.model.specs.Assignment.{variableIn, wordValue, nothingSaid, f
 use Rattle.model.specs.Close.{clauseTrue, satisfying, groupBy, groupsBy, closedGroups, assignmentOf, closeRefusal, closed}
 use Rattle.model.specs.Solution.{allowed, union, meaning, setOf, constraintTrue, isSolution, allTables, solutions}
 use Rattle.model.specs.Fill.{openValues, outputValues, assignmentFor, valuesOf, fillRefusal, filledValues}
+use Rattle.model.specs.Combine.{combinedGroup, bothOf, combinedModel, fits, combineRefusal, combined}
 use Rattle.model.specs.Demand.{groupWithin, within, unchanged, isCandidate, textOf, isAssignment, isSatisfying, freshReading, isFresh, readingAfter, valuesAfterAll, names, refusalAfter, sayLine, says}
 
 unfoldable pub defs : Unit {0}
-unfolding full less sizeIn size inside bit has wordWhere memberCount shortClauses unionClauses memberClauses ofGroup groupsOf clausesOf zeroGroup zeroConstraint zeroModel tableOf constraintsOf groupAt withTable groupInRange codeInRange constraintInRange inRange fieldAt shortNumber numberOf fieldValue numberIn valueAt isMarkColumn goodField formRefusal headRefusal withHead markAt groupRefusal groupFrom withGroup firstGroup countFrom groupCount constraintFrom constraintRefusal withConstraint lineRefusal withLine refusedSheet afterLast readSheet raised lowered lowAtLeast highAtMost highAtMostSum lowFirst highFirst unionLimits limitsOf limitRules limited cut filled groupRule falseIn allFalse fixedWith possibleWithout madeTrue literalRule clauseRules clauseRule constraintRule groupRuleAt rules pass groupConsistent consistent sameGroup sameTable iterate outcome refusedPropagation propagated isFixpoint unsettledOr opposite keep up down formed nodeTerms putIn dropped rowClauses nodeClauses shapeIn shape nodes treeClauses unit unitClauses totalizerClauses clauseCountIn treeClauseCount outputCountIn treeOutputCount openOf openCount atLeast atMost counted outputsOf firstVariable firstOutput variableOf tableVariables variableCount groupClauses membership termOf clausesAt constraintClauses blockClauses blockCount clauses groupClauseCount clauseCount digits decimal fieldText literalText clauseText headerText blockText listing hasEmptyClause blockRefusal writtenBlock blockBuffer headFields markOf groupFields constraintFields sheetFields lineText sheetText cleanConstraint cleanModel sheetRefusal writtenSheet sheetBuffer isBlank tokens natural number isComment withHeader readDimacs variableIn wordValue nothingSaid formOf isSaid withValue hasMinus variableSaid isZero isPassedOver callRefusal isTaken lineRead valuesAfter clauseTrue satisfying groupBy groupsBy closedGroups assignmentOf closeRefusal closed allowed union meaning setOf constraintTrue isSolution allTables solutions openValues outputValues assignmentFor valuesOf fillRefusal filledValues groupWithin within unchanged isCandidate textOf isAssignment isSatisfying freshReading isFresh readingAfter valuesAfterAll names refusalAfter sayLine says
+unfolding full less sizeIn size inside bit has wordWhere memberCount shortClauses unionClauses memberClauses ofGroup groupsOf clausesOf zeroGroup zeroConstraint zeroModel tableOf constraintsOf groupAt withTable groupInRange codeInRange constraintInRange inRange fieldAt shortNumber numberOf fieldValue numberIn valueAt isMarkColumn goodField formRefusal headRefusal withHead markAt groupRefusal groupFrom withGroup firstGroup countFrom groupCount constraintFrom constraintRefusal withConstraint lineRefusal withLine refusedSheet afterLast readSheet raised lowered lowAtLeast highAtMost highAtMostSum lowFirst highFirst unionLimits limitsOf limitRules limited cut filled groupRule falseIn allFalse fixedWith possibleWithout madeTrue literalRule clauseRules clauseRule constraintRule groupRuleAt rules pass groupConsistent consistent sameGroup sameTable iterate outcome refusedPropagation propagated isFixpoint unsettledOr opposite keep up down formed nodeTerms putIn dropped rowClauses nodeClauses shapeIn shape nodes treeClauses unit unitClauses totalizerClauses clauseCountIn treeClauseCount outputCountIn treeOutputCount openOf openCount atLeast atMost counted outputsOf firstVariable firstOutput variableOf tableVariables variableCount groupClauses membership termOf clausesAt constraintClauses blockClauses blockCount clauses groupClauseCount clauseCount digits decimal fieldText literalText clauseText headerText blockText listing hasEmptyClause blockRefusal writtenBlock blockBuffer headFields markOf groupFields constraintFields sheetFields lineText sheetText cleanConstraint cleanModel sheetRefusal writtenSheet sheetBuffer isBlank tokens natural number isComment withHeader readDimacs variableIn wordValue nothingSaid formOf isSaid withValue hasMinus variableSaid isZero isPassedOver callRefusal isTaken lineRead valuesAfter clauseTrue satisfying groupBy groupsBy closedGroups assignmentOf closeRefusal closed allowed union meaning setOf constraintTrue isSolution allTables solutions openValues outputValues assignmentFor valuesOf fillRefusal filledValues combinedGroup bothOf combinedModel fits combineRefusal combined groupWithin within unchanged isCandidate textOf isAssignment isSatisfying freshReading isFresh readingAfter valuesAfterAll names refusalAfter sayLine says
 defs = tt

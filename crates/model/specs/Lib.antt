@@ -15,5 +15,6 @@ pub mod Assignment
 pub mod Close
 pub mod Solution
 pub mod Fill
+pub mod Combine
 pub mod Demand
 pub mod Defs

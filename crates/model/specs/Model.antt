@@ -1,9 +1,10 @@
 -- The model of a sheet and the ranges that refusal 20 asks: "20 a model outside the sheet's ranges, an entrant past n in a set, a group twice in a
 -- line, or fixed not within possible (entries past s, c and a line's groups are ignored ..)".
+use mathlib.Core.Path.{_≡_}
 use Prim.Native.Nat.{ℕ, _-_, _^_, _≤_}
 use mathlib.Core.Bool.{Bool, not, _&&_, _||_}
 use mathlib.Core.List.{List, _++_}
-use lib.Dec.{leb, ltb, eqb}
+use lib.Dec.{T, leb, ltb, eqb}
 use lib.ListN.{length, replicate, getD, take, drop}
 use Rattle.model.specs.declared.Group.{Group}
 use Rattle.model.specs.declared.Constraint.{Constraint}
@@ -54,6 +55,12 @@ constraintSized c = leb (limits .members) (length (c .groups))
 
 abbrev pub membersSized : Model → Bool
 membersSized m = every constraintSized (constraintsOf m)
+
+-- each list of a model has the length of the array that it stands for
+pub record Whole (m : Model) : Type 0 where
+  pub groups : length (m .groups) ≡ limits .groups
+  pub constraints : length (m .constraints) ≡ limits .constraints
+  pub members : T (every constraintSized (m .constraints))
 
 -- "low ≤ high ≤ n", no entrant past n, fixed within possible
 unfoldable pub groupInRange : ℕ → Group → Bool

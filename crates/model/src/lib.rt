@@ -128,6 +128,12 @@ pub struct Closed {
     pub groups: [u64; Model::GROUPS],
 }
 
+// Combining's answer: 0 and the combined model, or a refusal and the zero model.
+pub struct Combined {
+    pub refusal: u32,
+    pub model: Model,
+}
+
 // The limits in one value, for the law that the constants below are the definitions' numbers.
 pub struct Limits {
     pub word: u32,

@@ -5,6 +5,8 @@ use mathlib.Core.List.{List, [], _∷_, _++_}
 use lib.Dec.{ltb, leb, eqb}
 use lib.ListN.{length, take, drop, replicate}
 use Rattle.model.specs.declared.Group.{Group}
+use Rattle.model.specs.declared.Constraint.{Constraint}
+use Rattle.model.specs.declared.Model.{Model}
 use Rattle.model.specs.declared.Written.{Written}
 use Rattle.model.specs.declared.Closed.{Closed}
 use Rattle.model.specs.Lists.{each}
@@ -41,6 +43,21 @@ hasRoom s room = leb s (limits .groups) && leb (4 * s) room
 -- the words of the first s groups at the front, where they fit
 unfoldable pub groupsLaid : List Group → ℕ → List ℕ → List ℕ
 groupsLaid groups s table = cond (hasRoom s (length table)) (each groupWords (take s groups) ++ drop (4 * s) table) table
+
+abbrev pub constraintWords : Constraint → List ℕ
+constraintWords c = c .code ∷ c .count ∷ c .groups
+
+-- a model: n, s, c, its groups and its constraints, all of them, used or not
+unfoldable pub modelWords : Model → List ℕ
+modelWords m = (m .n ∷ m .s ∷ m .c ∷ []) ++ (each groupWords (m .groups) ++ each constraintWords (m .constraints))
+
+-- how many words that are
+abbrev pub modelSize : ℕ
+modelSize = 3 + 4 * limits .groups + (2 + limits .members) * limits .constraints
+
+-- at the front of a slice that has room for them
+unfoldable pub modelLaid : Model → List ℕ → List ℕ
+modelLaid m words = cond (leb modelSize (length words)) (modelWords m ++ drop modelSize words) words
 
 abbrev pub noGroups : ℕ → Closed
 noGroups refusal = record { refusal = refusal; groups = replicate (limits .groups) 0 }

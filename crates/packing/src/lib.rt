@@ -1,12 +1,15 @@
 // An answer packed for a caller outside: one number, and words at the front of a slice that is lent.
 ghost use mathlib.Core.Path.{_≡_};
-ghost use mathlib.Core.List.{_++_};
-ghost use Prim.Native.Nat.{_+_, _≤_};
-ghost use lib.ListN.{length, drop};
+ghost use mathlib.Core.List.{[], _∷_, _++_};
+ghost use Prim.Native.Nat.{_+_, _*_, _≤_};
+ghost use lib.Dec.{leb};
+ghost use lib.ListN.{length, take, drop};
 ghost use lib.Seq.{sets};
+ghost use Rattle.model.specs.Lists.{each};
 ghost use Rattle.model.specs.Limits.{limits};
-ghost use Rattle.packing.specs.Packing.{numbered, writtenNumber, runNumber, lineNumber, groupWords, hasRoom, groupsLaid, fittedClosing, groupsAfter};
+ghost use Rattle.packing.specs.Packing.{numbered, writtenNumber, runNumber, lineNumber, groupWords, hasRoom, groupsLaid, constraintWords, modelSize, modelLaid, fittedClosing, groupsAfter};
 use model::Closed;
+use model::Constraint;
 use model::Group;
 use model::Model;
 use model::Written;
@@ -63,6 +66,19 @@ fn put_group(g: Group, at: usize, table: &mut [u64])
     table[at + 3] = g.high as u64;
 }
 
+// The words of the first s groups, from place `at` on.
+fn lay_groups(groups: [Group; Model::GROUPS], s: usize, at: usize, table: &mut [u64])
+    requires { ⌜ (s ≤ limits .groups) × (at + 4 * s ≤ length (now table)) ⌝ }
+    ensures { λ r. ⌜ now (table .exit) ≡ sets (now (table .entry)) at (each groupWords (take s groups)) ⌝ }
+{
+    let mut i: usize = 0;
+    while i < s {
+        let g = groups[i];
+        put_group(g, at + 4 * i, table);
+        i += 1;
+    }
+}
+
 // The words of the first s groups at the front of a table that has room for them; else false, and the table is left.
 pub fn put_groups(groups: [Group; Model::GROUPS], s: usize, table: &mut [u64]) -> bool
     ensures { λ r. ⌜ r ≡ hasRoom s (length (now (table .entry))) ⌝ }
@@ -74,12 +90,76 @@ pub fn put_groups(groups: [Group; Model::GROUPS], s: usize, table: &mut [u64]) -
     if table.len() < 4 * s {
         return false;
     }
+    lay_groups(groups, s, 0, table);
+    true
+}
+
+// The numbers of a constraint's groups, from place `at` on.
+fn put_members(ids: [u32; Model::MEMBERS], at: usize, words: &mut [u64])
+    requires { ⌜ at + limits .members ≤ length (now words) ⌝ }
+    ensures { λ r. ⌜ now (words .exit) ≡ sets (now (words .entry)) at ids ⌝ }
+    ensures { λ r. ⌜ length ids ≡ limits .members ⌝ }
+{
     let mut i: usize = 0;
-    while i < s {
-        let g = groups[i];
-        put_group(g, 4 * i, table);
+    while i < Model::MEMBERS {
+        words[at + i] = ids[i] as u64;
         i += 1;
     }
+}
+
+// The nineteen words of a constraint, from place `at` on.
+fn put_constraint(c: Constraint, at: usize, words: &mut [u64])
+    requires { ⌜ at + (2 + limits .members) ≤ length (now words) ⌝ }
+    ensures { λ r. ⌜ now (words .exit) ≡ sets (now (words .entry)) at (constraintWords c) ⌝ }
+    ensures { λ r. ⌜ length (constraintWords c) ≡ 2 + limits .members ⌝ }
+{
+    words[at] = c.code as u64;
+    words[at + 1] = c.count as u64;
+    let ids = c.groups;
+    put_members(ids, at + 2, words);
+}
+
+// The words of all constraints, from place `at` on.
+fn lay_constraints(constraints: [Constraint; Model::CONSTRAINTS], at: usize, words: &mut [u64])
+    requires { ⌜ at + (2 + limits .members) * limits .constraints ≤ length (now words) ⌝ }
+    ensures { λ r. ⌜ now (words .exit) ≡ sets (now (words .entry)) at (each constraintWords constraints) ⌝ }
+    ensures { λ r. ⌜ length (each constraintWords constraints) ≡ (2 + limits .members) * limits .constraints ⌝ }
+{
+    let mut i: usize = 0;
+    while i < Model::CONSTRAINTS {
+        let c = constraints[i];
+        put_constraint(c, at + (2 + Model::MEMBERS) * i, words);
+        i += 1;
+    }
+}
+
+// A model's n, s and c, at the front of a slice that has room for them.
+fn put_head(n: u32, s: u32, c: u32, words: &mut [u64])
+    requires { ⌜ 3 ≤ length (now words) ⌝ }
+    ensures { λ r. ⌜ now (words .exit) ≡ sets (now (words .entry)) 0 (n ∷ s ∷ c ∷ []) ⌝ }
+{
+    words[0] = n as u64;
+    words[1] = s as u64;
+    words[2] = c as u64;
+}
+
+// The words of a model.
+const MODEL_WORDS: usize = 3 + 4 * Model::GROUPS + (2 + Model::MEMBERS) * Model::CONSTRAINTS;
+
+// A model's words at the front of a slice that has room for them; else false, and the slice is left.
+pub fn put_model(m: Model, words: &mut [u64]) -> bool
+    ensures { λ r. ⌜ r ≡ leb modelSize (length (now (words .entry))) ⌝ }
+    ensures { λ r. ⌜ now (words .exit) ≡ modelLaid m (now (words .entry)) ⌝ }
+{
+    if words.len() < MODEL_WORDS {
+        return false;
+    }
+    let groups = m.groups;
+    let constraints = m.constraints;
+    model::whole(groups, constraints);
+    put_head(m.n, m.s, m.c, words);
+    lay_groups(groups, Model::GROUPS, 3, words);
+    lay_constraints(constraints, 3 + 4 * Model::GROUPS, words);
     true
 }
 

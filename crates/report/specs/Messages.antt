@@ -44,6 +44,9 @@ meanings =
     ∷ (28, "the solver's answer breaks a clause\n")
     ∷ (29, "a constraint has a clause without literals\n")
     ∷ (30, "the groups are not a draw of the sheet\n")
+    ∷ (31, "the sheets do not have the same number of entrants and of groups\n")
+    ∷ (32, "one sheet bars an entrant whom the other fixes, or the low of one exceeds the high of the other\n")
+    ∷ (33, "the sheets have more than 256 constraint lines in all\n")
     ∷ []
 
 -- the text that stands at a number; nothing where none does
@@ -66,6 +69,13 @@ refusedLineText line refusal =
     cond (eqb refusal 24)
     (bytes "line " ++ decimal line ++ bytes ": too long, not read\n")
     (bytes "line " ++ decimal line ++ bytes ": refused " ++ decimal refusal ++ bytes ": " ++ meaningText refusal)
+
+-- 32, of the group in which two sheets clash: by an entrant, or, where that is 0, by their limits alone
+unfoldable pub clashText : ℕ → ℕ → List ℕ
+clashText group entrant =
+    cond (eqb entrant 0)
+    (bytes "refused 32 at group " ++ decimal group ++ bytes "\nthe low of one sheet exceeds the high of the other\n")
+    (bytes "refused 32 at group " ++ decimal group ++ bytes ", entrant " ++ decimal entrant ++ bytes "\none sheet bars the entrant, the other fixes it\n")
 
 -- ---- numbers
 

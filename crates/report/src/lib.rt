@@ -2,7 +2,7 @@
 ghost use mathlib.Core.Path.{_≡_};
 ghost use mathlib.Core.List.{[]};
 ghost use Rattle.model.specs.Text.{decimal};
-ghost use Rattle.report.specs.Messages.{meaningText, refusedText, refusedAtText, refusedLineText, numberText, countsText, passesText, Counted, closedText, endingText, blockLine, changedText, reasonText, notCertifiedText, noDrawText, faultStart, faultEnd, wrongGroupsText, message, added, addedUnsaid, addedResult, addedTried};
+ghost use Rattle.report.specs.Messages.{meaningText, refusedText, refusedAtText, refusedLineText, clashText, numberText, countsText, passesText, Counted, closedText, endingText, blockLine, changedText, reasonText, notCertifiedText, noDrawText, faultStart, faultEnd, wrongGroupsText, message, added, addedUnsaid, addedResult, addedTried};
 
 // The most bytes of a message.
 const MOST: usize = 160;
@@ -91,6 +91,18 @@ fn add_meaning(m: Message, refusal: u32) -> Message
         28 => add(m, b"the solver's answer breaks a clause\n"),
         29 => add(m, b"a constraint has a clause without literals\n"),
         30 => add(m, b"the groups are not a draw of the sheet\n"),
+        31 => add(
+            m,
+            b"the sheets do not have the same number of entrants and of groups\n",
+        ),
+        32 => add(
+            m,
+            b"one sheet bars an entrant whom the other fixes, or the low of one exceeds the high of the other\n",
+        ),
+        33 => add(
+            m,
+            b"the sheets have more than 256 constraint lines in all\n",
+        ),
         _ => m,
     }
 }
@@ -133,6 +145,21 @@ pub fn refused_line(line: u32, refusal: u32) -> Message
     let d = add_number(c, refusal);
     let e = add(d, b": ");
     add_meaning(e, refusal)
+}
+
+// `refused 32 at group G, entrant E`, a newline and what the two sheets say of the entrant; or, where it is 0, of the group's limits.
+pub fn clashed(group: u32, entrant: u32) -> Message
+    ensures { λ r. ⌜ r ≡ message (clashText group entrant) ⌝ }
+    ensures { λ r. ⌜ Counted r ⌝ }
+{
+    let a = add(empty(), b"refused 32 at group ");
+    let b = add_number(a, group);
+    if entrant == 0 {
+        return add(b, b"\nthe low of one sheet exceeds the high of the other\n");
+    }
+    let c = add(b, b", entrant ");
+    let d = add_number(c, entrant);
+    add(d, b"\none sheet bars the entrant, the other fixes it\n")
 }
 
 // A number in a line.

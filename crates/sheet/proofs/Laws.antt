@@ -2,7 +2,7 @@
 use Prim.Native.Nat.{ℕ, suc, _+_, _-_, _*_, _^_, _%_, _≤_, _<_}
 use mathlib.Core.Path.{_≡_, ap, sym, _∙_}
 use mathlib.Core.Bool.{Bool, true, false, cond}
-use mathlib.Core.List.{List, [], _∷_, _++_, map, append-assoc}
+use mathlib.Core.List.{List, [], _∷_, _++_, map}
 use native.Mathlib.Nat.{one-mul, add-comm, zero-add}
 use native.Mathlib.Numerals.{add-one}
 use native.Mathlib.Omega.{arith}
@@ -12,8 +12,8 @@ use lib.Dec.{eqb}
 use lib.ListN.{length, take, drop, getD, set, replicate, length-drop, drop-of-length-le}
 use Rattle.model.specs.Limits.{limits}
 use Rattle.model.proofs.Words.{shifted}
-use lib.Seq.{take-all, set-at}
-use Rattle.model.proofs.Lists.{values-append, values-length}
+use lib.Seq.{take-all}
+use Rattle.model.proofs.Lists.{values-append, values-length, stored-next}
 use Rattle.model.proofs.Loops.{drop-next}
 use Rattle.model.specs.Lists.{range}
 use Rattle.model.specs.Words.{wordWhere}
@@ -68,9 +68,6 @@ or-bit w e h k =
 pub store-next : (f : ℕ → ℕ) (m i : ℕ) → i < m
     → set (map f (range 0 i) ++ replicate (m - i) 0) i (f i) ≡ map f (range 0 (i + 1)) ++ replicate (m - (i + 1)) 0
 store-next f m i h =
-    let z : m - i ≡ suc (m - (i + 1)) = omega arith in
-    let rest : List ℕ = replicate (m - (i + 1)) 0 in
     let last : map f (range 0 (i + 1)) ≡ map f (range 0 i) ++ (f i ∷ []) = values-append f 0 i 1 ∙ rw (zero-add i) in
-    rw z
-    (set-at (map f (range 0 i)) 0 rest (f i) i (values-length f 0 i)
-    ∙ sym (ap (λ (l : List ℕ). l ++ rest) last ∙ append-assoc (map f (range 0 i)) (f i ∷ []) rest))
+    stored-next (map f (range 0 i)) m i 0 (f i) (values-length f 0 i) h
+    ∙ ap (λ (l : List ℕ). l ++ replicate (m - (i + 1)) 0) (sym last)

@@ -2,6 +2,7 @@
 use counterpart::compare::blanks::rewritten;
 use counterpart::compare::calls::{settled, Calls, Counterpart};
 use counterpart::encode::Encoding;
+use counterpart::sheet::{read as read_model, write as write_model};
 use std::hint::black_box;
 use std::time::Instant;
 
@@ -9,6 +10,8 @@ struct Input {
     sheet: Vec<u8>,
     /// The sheet with its open marks blank.
     blank: Vec<u8>,
+    /// The sheet without its lines, to be combined with it.
+    bare: Vec<u8>,
     answer: Vec<u8>,
     variables: usize,
     /// The marks that the answer says.
@@ -19,9 +22,10 @@ struct Input {
 
 type Work = fn(&dyn Calls, &Input);
 
-const STEPS: [(&str, Work); 6] = [
+const STEPS: [(&str, Work); 7] = [
     ("read", read),
     ("read, open marks blank", read_blank),
+    ("read two, combine and write", combine),
     ("read and settle", settle),
     ("solver lines", lines),
     ("read, settle and close", close),
@@ -34,6 +38,11 @@ fn read(calls: &dyn Calls, input: &Input) {
 
 fn read_blank(calls: &dyn Calls, input: &Input) {
     black_box(calls.read(&input.blank));
+}
+
+fn combine(calls: &dyn Calls, input: &Input) {
+    let length = input.sheet.len();
+    assert_eq!(calls.combine(&input.sheet, &input.bare, &mut vec![0; length]), length as u64);
 }
 
 fn settle(calls: &dyn Calls, input: &Input) {
@@ -95,7 +104,10 @@ fn main() {
     let answer = std::fs::read(answer).expect("the answer");
     let variables = Encoding::of(&settled(&sheet).expect("a sheet that settles")).variables;
     let blank = rewritten(&sheet, |_| true);
-    let mut input = Input { sheet, blank, answer, variables, marks: Vec::new(), groups: [0; 256] };
+    let mut model = read_model(&sheet).expect("a sheet");
+    model.constraints.clear();
+    let bare = write_model(&model);
+    let mut input = Input { sheet, blank, bare, answer, variables, marks: Vec::new(), groups: [0; 256] };
     input.marks = marks(&Counterpart, &input);
     assert_eq!(Counterpart.close(&input.sheet, 1, &input.marks, &mut input.groups), 0);
     let Some(other) = other() else {

@@ -5,8 +5,8 @@ use crate::model::{Model, GROUPS};
 use crate::refusal::{CONTRADICTION, SHORT_BUFFER};
 use crate::settle::{settle, Settled};
 use crate::sheet::{read, write};
-use crate::words::from_words;
-use crate::{answer, close, fill, listing};
+use crate::words::{from_words, to_words, WORDS};
+use crate::{answer, close, combine, fill, listing};
 
 /// What answers the calls: the proved code, this crate, or a broken copy in a test.
 pub trait Calls {
@@ -31,6 +31,10 @@ pub trait Calls {
     fn fill_model(&self, words: &[u64], groups: &[u64], marks: &mut [u8]) -> u32;
     /// the sheet of a model as words: refusal * 2^32 + length
     fn write_model(&self, words: &[u64], buffer: &mut [u8]) -> u64;
+    /// the sheet of two combined: refusal * 2^32 + length
+    fn combine(&self, first: &[u8], second: &[u8], buffer: &mut [u8]) -> u64;
+    /// the refusal; the words get the combined model, and 24 is words without room for it
+    fn combine_model(&self, first: &[u64], second: &[u64], words: &mut [u64]) -> u32;
     /// a certificate of a sheet: 0 not certified, + 4 * reason + 65536 * line; 1 sheet refused, + 4 * refusal + 65536 * line; 2 settled out; 3 certified
     fn certify(&self, sheet: &[u8], certificate: &[u8], lent: &mut Lent) -> u64;
 }
@@ -77,6 +81,23 @@ fn write_number(model: Result<Model, u32>, buffer: &mut [u8]) -> Result<u64, u32
     let sheet = write(&model?);
     buffer.get_mut(..sheet.len()).ok_or(SHORT_BUFFER)?.copy_from_slice(&sheet);
     Ok(sheet.len() as u64)
+}
+
+/// The combined model of two sheets, or the refusal of the first, of the second or of both together.
+pub fn combined(first: &[u8], second: &[u8]) -> Result<Model, u32> {
+    let [first, second] = [first, second].map(|sheet| read(sheet).map_err(|refused| refused.number));
+    combine::combine(&first?, &second?)
+}
+
+/// The combined model of two models' words, or refusal 20, 31, 32 or 33.
+pub fn combined_words(first: &[u64], second: &[u64]) -> Result<Model, u32> {
+    combine::combine(&from_words(first)?, &from_words(second)?)
+}
+
+fn combine_words(model: Result<Model, u32>, words: &mut [u64]) -> Result<(), u32> {
+    let model = model?;
+    words.get_mut(..WORDS).ok_or(SHORT_BUFFER)?.copy_from_slice(&to_words(&model, 0));
+    Ok(())
 }
 
 fn close_number(settled: Result<Settled, u32>, closed: u32, marks: &[u8], groups: &mut [u64]) -> Result<(), u32> {
@@ -147,6 +168,14 @@ impl Calls for Counterpart {
 
     fn write_model(&self, words: &[u64], buffer: &mut [u8]) -> u64 {
         write_number(from_words(words), buffer).unwrap_or_else(|number| u64::from(number) << 32)
+    }
+
+    fn combine(&self, first: &[u8], second: &[u8], buffer: &mut [u8]) -> u64 {
+        write_number(combined(first, second), buffer).unwrap_or_else(|number| u64::from(number) << 32)
+    }
+
+    fn combine_model(&self, first: &[u64], second: &[u64], words: &mut [u64]) -> u32 {
+        combine_words(combined_words(first, second), words).err().unwrap_or(0)
     }
 
     /// The reason, and its line, of a certificate that fails are the other side's to say.

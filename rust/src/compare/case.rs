@@ -2,6 +2,7 @@
 use super::blanks;
 use super::calls::{settled, Calls, Counterpart};
 use super::certificates::{self, CertificateCase};
+use super::combining::{self, CombineCase, CombineWordsCase};
 use super::filling::{self, FillCase};
 use super::limits;
 use super::models::{self, ModelCase};
@@ -49,6 +50,8 @@ pub enum Case {
     Model(ModelCase),
     Certificate(CertificateCase),
     Twins(TwinCase),
+    Combine(CombineCase),
+    CombineWords(CombineWordsCase),
     /// The block of each counter, cut piece by piece.
     Steps {
         sheet: Vec<u8>,
@@ -62,7 +65,7 @@ pub const SAMPLE: Kind = "line: answers to the published samples";
 /// Every kind of case, in the order of the report. A run that misses one has failed.
 pub fn kinds() -> impl Iterator<Item = Kind> {
     let parts = filling::kinds().chain(limits::kinds()).chain([models::KINDS, certificates::KINDS, blanks::KINDS].into_iter().flatten().copied());
-    KINDS.iter().copied().chain(parts).chain(twins::kinds()).chain(steps::kinds())
+    KINDS.iter().copied().chain(parts).chain(twins::kinds()).chain(steps::kinds()).chain(combining::kinds())
 }
 
 const KINDS: &[Kind] = &[
@@ -198,6 +201,8 @@ pub fn check(case: &Case, other: &dyn Calls) -> Outcome {
         Case::Model(model) => model.check(other, &mut outcome),
         Case::Certificate(certificate) => certificate.check(other, &mut outcome),
         Case::Twins(twins) => twins.check(other, &mut outcome),
+        Case::Combine(pair) => pair.check(other, &mut outcome),
+        Case::CombineWords(pair) => pair.check(other, &mut outcome),
         Case::Steps { sheet } => steps::check(sheet, other, &mut outcome),
     }
     outcome
@@ -227,7 +232,7 @@ fn read_kind(sheet: &[u8], answer: u64) -> Kind {
     }
 }
 
-fn check_settle(sheet: &[u8], spare: isize, other: &dyn Calls, outcome: &mut Outcome) {
+pub fn check_settle(sheet: &[u8], spare: isize, other: &dyn Calls, outcome: &mut Outcome) {
     let words = match settled(sheet) {
         Ok(settled) => {
             note_settled(&settled, spare, outcome);
@@ -435,7 +440,17 @@ impl Case {
             Case::Fill(fill) => Some(&fill.sheet),
             Case::Certificate(certificate) => Some(&certificate.sheet),
             Case::Twins(twins) => twins.case.sheet(),
-            Case::Lines { .. } | Case::Model(_) => None,
+            Case::Combine(pair) => Some(pair.sheet()),
+            Case::Lines { .. } | Case::Model(_) | Case::CombineWords(_) => None,
+        }
+    }
+
+    /// The two sheets of the case, where it has two.
+    pub fn pair(&mut self) -> Option<&mut CombineCase> {
+        match self {
+            Case::Combine(pair) => Some(pair),
+            Case::Twins(twins) => twins.case.pair(),
+            _ => None,
         }
     }
 
@@ -444,6 +459,7 @@ impl Case {
         match self {
             Case::Fill(fill) => Some(&mut fill.groups),
             Case::Twins(twins) => twins.case.groups(),
+            Case::Combine(pair) => Some(&mut pair.groups),
             _ => None,
         }
     }
@@ -463,7 +479,8 @@ impl Case {
             Case::Fill(fill) => *fill = fill.with_sheet(new),
             Case::Certificate(certificate) => *certificate = certificate.with_sheet(new),
             Case::Twins(twins) => *twins = twins.with_sheet(new),
-            Case::Lines { .. } | Case::Model(_) => {}
+            Case::Combine(pair) => *pair = pair.with_sheet(new),
+            Case::Lines { .. } | Case::Model(_) | Case::CombineWords(_) => {}
         }
         case
     }
@@ -479,6 +496,8 @@ impl Case {
             Case::Model(model) => model.show(),
             Case::Certificate(certificate) => certificate.show(),
             Case::Twins(twins) => twins.show(),
+            Case::Combine(pair) => pair.show(),
+            Case::CombineWords(pair) => pair.show(),
             Case::Steps { sheet } => format!("each counter by its steps\n{}", show_sheet(sheet)),
             Case::Close { sheet, closed, marks, room } => format!("close, closed {closed}, marks {marks:?}, table of {room} words\n{}", show_sheet(sheet)),
             Case::Lines { marks, lines } => {

@@ -4,6 +4,7 @@ pub mod blanks;
 pub mod calls;
 pub mod case;
 pub mod certificates;
+pub mod combining;
 pub mod filling;
 pub mod limits;
 pub mod models;

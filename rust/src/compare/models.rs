@@ -260,7 +260,7 @@ fn filling(random: &mut Random, model: &Model, draw: Option<&[u64]>) -> Call {
 }
 
 /// A word of the model, each field as likely as another; now and then one that is ignored.
-fn place(random: &mut Random, model: &Model) -> usize {
+pub fn place(random: &mut Random, model: &Model) -> usize {
     let group = FIRST_GROUP + 4 * random.below(model.groups.len());
     let line = FIRST_LINE + 19 * random.below(model.constraints.len().max(1));
     match random.below(11) {
@@ -272,7 +272,8 @@ fn place(random: &mut Random, model: &Model) -> usize {
     }
 }
 
-fn damage(random: &mut Random, word: u64) -> u64 {
+/// Another word in its place; by luck it may be as good.
+pub fn damage(random: &mut Random, word: u64) -> u64 {
     match random.below(4) {
         0 => word.wrapping_add(1),
         1 => word.wrapping_sub(1),

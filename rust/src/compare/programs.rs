@@ -3,27 +3,36 @@ use super::answers;
 use super::blanks;
 use super::calls::settled;
 use super::case::{Case, Kind};
+use super::combining::{self, CombineCase};
 use super::limits;
 use super::random::Random;
 use super::sheets;
 use super::shrink::shrink;
 use crate::answer::read_lines;
+use crate::combine::{clash, combine};
 use crate::encode::Encoding;
 use crate::fill::{self, assignment};
 use crate::listing::listing;
+use crate::refusal::{CLASH, OTHER_SIZE};
 use crate::{close, sheet};
 use std::collections::BTreeMap;
 use std::fs::{self, File};
 use std::path::{Path, PathBuf};
 use std::process::Command;
 
-const PROGRAMS: [&str; 5] = ["read_sheet", "propagate_sheet", "write_cnf", "read_solution", "write_values"];
+const PROGRAMS: [&str; 6] = ["read_sheet", "propagate_sheet", "write_cnf", "read_solution", "write_values", COMBINE];
 
-/// A sheet, and what read_solution and write_values are given with it.
+/// It has two sheets of its own, files that are its arguments.
+const COMBINE: &str = "combine_sheets";
+const FILES: [&str; 2] = ["first", "second"];
+
+/// A sheet, and what read_solution and write_values are given with it; two sheets to combine.
+#[derive(Clone)]
 struct Input {
     sheet: Vec<u8>,
     answer: Vec<u8>,
     groups: Vec<u64>,
+    pair: [Vec<u8>; 2],
 }
 
 /// What a program must print: on standard output exactly, or as lines on either output beside words that are free.
@@ -87,21 +96,35 @@ impl Programs {
         let (sheet_file, other_file) = (self.scratch.join("sheet"), self.scratch.join("other"));
         fs::write(&sheet_file, &input.sheet)?;
         let mut command = Command::new(self.bin.join(name));
-        if let Some(other) = input.beside(name) {
+        if name == COMBINE {
+            for (file, sheet) in FILES.iter().zip(&input.pair) {
+                fs::write(self.scratch.join(file), sheet)?;
+                command.arg(self.scratch.join(file));
+            }
+        } else if let Some(other) = input.beside(name) {
             fs::write(&other_file, other)?;
             command.arg(&sheet_file).stdin(File::open(&other_file)?);
         } else {
             command.stdin(File::open(&sheet_file)?);
         }
         let output = command.output()?;
-        Ok((output.stdout, String::from_utf8_lossy(&output.stderr).into_owned()))
+        // a sheet's name without its folder
+        let err = String::from_utf8_lossy(&output.stderr).replace(&format!("{}/", self.scratch.display()), "");
+        Ok((output.stdout, err))
     }
 
     fn smallest(&self, name: &str, kind: Kind, input: &Input) -> String {
-        let with = |sheet: &[u8]| Input { sheet: sheet.to_vec(), answer: input.answer.clone(), groups: fitted(&input.groups, sheet) };
-        let fails = |case: &Case| case.sheet().is_some_and(|sheet| self.compare(name, &with(sheet)).is_ok_and(|(_, same)| !same));
-        let smallest = shrink(Case::Read { sheet: input.sheet.clone() }, &fails);
-        let input = with(smallest.sheet().unwrap_or_default());
+        let with = |case: &Case| match case.clone().pair() {
+            Some(pair) => Input { pair: pair.sheets.clone(), ..input.clone() },
+            None => {
+                let sheet = case.sheet().unwrap_or_default();
+                Input { sheet: sheet.to_vec(), groups: fitted(&input.groups, sheet), ..input.clone() }
+            }
+        };
+        let fails = |case: &Case| self.compare(name, &with(case)).is_ok_and(|(_, same)| !same);
+        let case = if name == COMBINE { Case::Combine(CombineCase::new(input.pair.clone())) } else { Case::Read { sheet: input.sheet.clone() } };
+        let smallest = shrink(case, &fails);
+        let input = with(&smallest);
         let (out, err) = self.print(name, &input).unwrap_or_default();
         let wanted = wanted(name, &input);
         let wanted = String::from_utf8_lossy(&wanted.out.unwrap_or_default()).into_owned() + &wanted.lines;
@@ -130,7 +153,8 @@ impl Drop for Programs {
 
 /// Whether the lines that report something are the wanted ones; such a line may go on in words after a colon.
 fn same_lines(printed: &str, wanted: &str) -> bool {
-    let reports = printed.lines().filter(|line| ["refused ", "passes ", "line "].iter().any(|start| line.starts_with(start)));
+    let of_a_file = |line: &str| FILES.iter().any(|file| line.starts_with(&format!("{file}: refused ")));
+    let reports = printed.lines().filter(|line| of_a_file(line) || ["refused ", "passes ", "line "].iter().any(|start| line.starts_with(start)));
     let reports: Vec<&str> = reports.collect();
     let agree = |(printed, wanted): (&&str, &str)| printed.strip_prefix(wanted).is_some_and(|rest| rest.is_empty() || rest.starts_with(':'));
     reports.len() == wanted.lines().count() && reports.iter().zip(wanted.lines()).all(agree)
@@ -138,6 +162,7 @@ fn same_lines(printed: &str, wanted: &str) -> bool {
 
 /// A sheet, valid, with blank marks or damaged, with an answer and groups for it.
 fn sample(random: &mut Random) -> Input {
+    let pair = combining::sheets(random);
     let mut sample = match random.below(20) {
         0..=2 => limits::sample(random),
         3..=5 => blanks::sample(random),
@@ -148,14 +173,14 @@ fn sample(random: &mut Random) -> Input {
         sample.draw = None;
     }
     let Ok(model) = sheet::read(&sample.sheet) else {
-        return Input { sheet: sample.sheet, answer: b"v 0\n".to_vec(), groups: vec![1] };
+        return Input { sheet: sample.sheet, answer: b"v 0\n".to_vec(), groups: vec![1], pair };
     };
     let mut groups = sample.draw.unwrap_or_else(|| vec![0; model.groups.len()]);
     let marks = settled(&sample.sheet).map_or(Vec::new(), |settled| assignment(&Encoding::of(&settled), &groups));
     if random.chance(30) {
         groups[random.below(model.groups.len())] ^= 1 << random.below(model.entrants as usize);
     }
-    Input { sheet: sample.sheet, answer: answer(random, &marks), groups }
+    Input { sheet: sample.sheet, answer: answer(random, &marks), groups, pair }
 }
 
 /// Groups cut or lengthened to those of a sheet, without entrants that it does not have.
@@ -188,6 +213,7 @@ fn wanted(name: &str, input: &Input) -> Wanted {
         "propagate_sheet" => wanted_settled(sheet),
         "write_cnf" => wanted_listing(sheet),
         "read_solution" => wanted_groups(sheet, &input.answer),
+        COMBINE => wanted_combined(&input.pair),
         _ => wanted_values(sheet, &input.groups),
     }
 }
@@ -252,4 +278,29 @@ fn wanted_values(bytes: &[u8], groups: &[u64]) -> Wanted {
         Ok(()) => whole("write_values: values", fill::lines(&marks).into_bytes(), String::new()),
         Err(number) => refused("write_values: refused", format!("refused {number}")),
     }
+}
+
+fn wanted_combined(pair: &[Vec<u8>; 2]) -> Wanted {
+    let [first, second] = [0, 1].map(|at| {
+        let refused = |no: sheet::Refused| format!("{}: refused {} at line {}", FILES[at], no.number, no.line);
+        sheet::read(&pair[at]).map_err(refused)
+    });
+    let (first, second) = match (first, second) {
+        (Ok(first), Ok(second)) => (first, second),
+        (Err(lines), _) => return refused_whole("combine_sheets: first sheet refused", lines),
+        (_, Err(lines)) => return refused_whole("combine_sheets: second sheet refused", lines),
+    };
+    match (combine(&first, &second), clash(&first, &second)) {
+        (Ok(model), _) => whole("combine_sheets: combined", sheet::write(&model), String::new()),
+        (Err(CLASH), Some(place)) => {
+            let kind = if place.entrant.is_some() { "combine_sheets: 32 with an entrant" } else { "combine_sheets: 32 by limits" };
+            refused_whole(kind, format!("refused 32 at {place}"))
+        }
+        (Err(number), _) => refused_whole(if number == OTHER_SIZE { "combine_sheets: 31" } else { "combine_sheets: 33" }, format!("refused {number}")),
+    }
+}
+
+/// Refused on standard error, and nothing on standard output.
+fn refused_whole(kind: Kind, lines: String) -> Wanted {
+    whole(kind, Vec::new(), lines)
 }

@@ -5,7 +5,7 @@ use super::random::Random;
 use super::sheets::Sample;
 use super::shrink::shrink;
 use super::twins::TwinCase;
-use super::{answers, blanks, certificates, filling, limits, models, samples, sheets, steps};
+use super::{answers, blanks, certificates, combining, filling, limits, models, samples, sheets, steps};
 use crate::encode::Encoding;
 use crate::fill::assignment;
 use crate::listing::listing;
@@ -23,6 +23,8 @@ pub struct Tally {
 /// Compares until so many calls are made. `say` gets what there is to print.
 pub fn run(other: &dyn Calls, seed: u64, calls: u64, say: &mut dyn FnMut(&str)) -> Tally {
     let mut random = Random(seed);
+    // pairs of sheets have numbers of their own, so that the other cases stay what they were
+    let mut of_pairs = Random(!seed);
     let mut tally = Tally::default();
     for case in samples::cases() {
         take(&case, other, &mut tally, say);
@@ -33,7 +35,8 @@ pub fn run(other: &dyn Calls, seed: u64, calls: u64, say: &mut dyn FnMut(&str)) 
     }
     let mut next_word = Instant::now() + Duration::from_secs(3);
     while tally.calls < calls {
-        for case in batch(&mut random) {
+        let pairs = if of_pairs.chance(30) { combining::cases(&mut of_pairs) } else { Vec::new() };
+        for case in batch(&mut random).into_iter().chain(pairs) {
             take(&case, other, &mut tally, say);
         }
         if Instant::now() >= next_word {
@@ -234,9 +237,12 @@ fn close_case(random: &mut Random, sheet: Vec<u8>, draw: Option<&[u64]>) -> Case
 
 #[cfg(test)]
 mod tests {
-    use super::super::calls::{Counterpart, Lent};
+    use super::super::calls::{combined, Counterpart, Lent};
     use super::*;
+    use crate::model::Model;
+    use crate::sheet::{read, write};
     use crate::steps::{counters, dropped, form, put_in, Node, Printed, Value};
+    use crate::words::{from_words, group_at, FIRST_GROUP};
 
     const CALLS: u64 = 20_000;
 
@@ -270,6 +276,8 @@ mod tests {
         close_model: fn(&[u64], u32, &[u8], &mut [u64]) -> u32,
         fill_model: fn(&[u64], &[u64], &mut [u8]) -> u32,
         write_model: fn(&[u64], &mut [u8]) -> u64,
+        combine: fn(&[u8], &[u8], &mut [u8]) -> u64,
+        combine_model: fn(&[u64], &[u64], &mut [u64]) -> u32,
         certify: fn(&[u8], &[u8], &mut Lent) -> u64,
     }
 
@@ -286,6 +294,8 @@ mod tests {
         close_model: |words, closed, marks, groups| Counterpart.close_model(words, closed, marks, groups),
         fill_model: |words, groups, marks| Counterpart.fill_model(words, groups, marks),
         write_model: |words, buffer| Counterpart.write_model(words, buffer),
+        combine: |first, second, buffer| Counterpart.combine(first, second, buffer),
+        combine_model: |first, second, words| Counterpart.combine_model(first, second, words),
         certify: |sheet, certificate, lent| Counterpart.certify(sheet, certificate, lent),
     };
 
@@ -325,6 +335,12 @@ mod tests {
         }
         fn write_model(&self, words: &[u64], buffer: &mut [u8]) -> u64 {
             (self.write_model)(words, buffer)
+        }
+        fn combine(&self, first: &[u8], second: &[u8], buffer: &mut [u8]) -> u64 {
+            (self.combine)(first, second, buffer)
+        }
+        fn combine_model(&self, first: &[u64], second: &[u64], words: &mut [u64]) -> u32 {
+            (self.combine_model)(first, second, words)
         }
         fn certify(&self, sheet: &[u8], certificate: &[u8], lent: &mut Lent) -> u64 {
             (self.certify)(sheet, certificate, lent)
@@ -628,5 +644,117 @@ mod tests {
             Counterpart.certify(sheet, certificate, lent)
         };
         is_caught(Broken { certify, ..SOUND }, "certify: sheet refused", "index at 0");
+    }
+    /// Two sheets combined, where that is not refused, with a change of the combined model.
+    fn combined_with(first: &[u8], second: &[u8], buffer: &mut [u8], change: impl Fn(&Model, &Model, &mut Model)) -> u64 {
+        let answer = Counterpart.combine(first, second, buffer);
+        if let (0, Ok(first), Ok(second), Ok(mut model)) = (answer >> 32, read(first), read(second), combined(first, second)) {
+            change(&first, &second, &mut model);
+            buffer[..answer as usize].copy_from_slice(&write(&model));
+        }
+        answer
+    }
+
+    #[test]
+    fn fixed_by_both_in_place_of_either_is_caught_with_the_smallest_sheets() {
+        let combine = |first: &[u8], second: &[u8], buffer: &mut [u8]| {
+            combined_with(first, second, buffer, |first, second, model| {
+                model.groups.iter_mut().enumerate().for_each(|(at, group)| group.fixed = first.groups[at].fixed & second.groups[at].fixed)
+            })
+        };
+        is_caught(
+            Broken { combine, ..SOUND },
+            "combine: fixed by one alone",
+            "\n   1   1   1   0\n   2   1   0   1   2\nwith\n   1   1   1   0\n   2   1   0   1   1\n",
+        );
+    }
+
+    #[test]
+    fn the_smaller_low_is_caught() {
+        let combine = |first: &[u8], second: &[u8], buffer: &mut [u8]| {
+            combined_with(first, second, buffer, |first, second, model| {
+                model.groups.iter_mut().enumerate().for_each(|(at, group)| group.low = first.groups[at].low.min(second.groups[at].low))
+            })
+        };
+        is_caught(Broken { combine, ..SOUND }, "combine: first's low as second's high", "\n   1   1   1   0\n   2   1   0   1   1\n");
+    }
+
+    #[test]
+    fn the_lines_of_the_second_first_are_caught() {
+        let combine = |first: &[u8], second: &[u8], buffer: &mut [u8]| {
+            combined_with(first, second, buffer, |first, second, model| {
+                model.constraints = [&second.constraints[..], &first.constraints[..]].concat();
+            })
+        };
+        is_caught(Broken { combine, ..SOUND }, "combine: lines of both", "difference in combine: ");
+    }
+
+    #[test]
+    fn too_many_lines_judged_before_a_clash_are_caught() {
+        let combine = |first: &[u8], second: &[u8], buffer: &mut [u8]| match Counterpart.combine(first, second, buffer) {
+            answer if answer >> 32 == 32 && lines_of(read(first)) + lines_of(read(second)) > 256 => 33 << 32,
+            answer => answer,
+        };
+        is_caught(Broken { combine, ..SOUND }, "combine: 32 before 33", "difference in combine: 32 before 33");
+        let combine_model = |first: &[u64], second: &[u64], words: &mut [u64]| match Counterpart.combine_model(first, second, words) {
+            32 if lines_of(from_words(first)) + lines_of(from_words(second)) > 256 => 33,
+            answer => answer,
+        };
+        is_caught(Broken { combine_model, ..SOUND }, "combine words: 32 before 33", "difference in combine words: 32 before 33");
+    }
+
+    fn lines_of<E>(model: Result<Model, E>) -> usize {
+        model.map_or(0, |model| model.constraints.len())
+    }
+
+    /// Two models' words combined, where that is not refused, with a change of the combined words.
+    fn combined_words_with(first: &[u64], second: &[u64], words: &mut [u64], change: impl Fn(&mut [u64])) -> u32 {
+        let answer = Counterpart.combine_model(first, second, words);
+        if answer == 0 {
+            change(words);
+        }
+        answer
+    }
+
+    #[test]
+    fn words_past_s_that_are_combined_too_are_caught() {
+        let combine_model = |first: &[u64], second: &[u64], words: &mut [u64]| {
+            let past = |at: usize| first.get(at).copied().unwrap_or(0) | second.get(at).copied().unwrap_or(0);
+            combined_words_with(first, second, words, |words| {
+                let s = words[1] as usize;
+                (s..256).map(|group| FIRST_GROUP + 4 * group).for_each(|at| words[at] = past(at));
+            })
+        };
+        is_caught(Broken { combine_model, ..SOUND }, "combine words: past s not zero", "words at");
+    }
+
+    #[test]
+    fn a_clash_past_s_that_is_judged_is_caught() {
+        let combine_model = |first: &[u64], second: &[u64], words: &mut [u64]| match Counterpart.combine_model(first, second, words) {
+            0 if (words[1] as usize..256).any(|group| group_at(first, group).low > group_at(second, group).high) => 32,
+            answer => answer,
+        };
+        is_caught(Broken { combine_model, ..SOUND }, "combine words: a clash past s alone", "combine, room for");
+    }
+
+    #[test]
+    fn a_second_model_whose_20_is_judged_after_31_is_caught() {
+        let combine_model = |first: &[u64], second: &[u64], words: &mut [u64]| match Counterpart.combine_model(first, second, words) {
+            20 if from_words(first).is_ok() && first[..2] != second[..2] => 31,
+            answer => answer,
+        };
+        is_caught(Broken { combine_model, ..SOUND }, "combine words: 20 before 31", "combine, room for");
+    }
+
+    #[test]
+    fn combining_that_writes_on_a_refusal_is_caught() {
+        let combine = |first: &[u8], second: &[u8], buffer: &mut [u8]| {
+            let answer = Counterpart.combine(first, second, buffer);
+            if answer >> 32 != 0 {
+                buffer.iter_mut().take(1).for_each(|byte| *byte = b' ');
+            }
+            answer
+        };
+        is_caught(Broken { combine, ..SOUND }, "combine: 24 buffer a byte short", "buffer at 0");
     }
 }

@@ -26,6 +26,32 @@ pub fn valid(random: &mut Random) -> Sample {
     Sample { sheet: sheet::write(&model), draw: planted.then_some(sets) }
 }
 
+/// Two models over the same entrants and groups, and a draw of both, where they were made around one.
+pub struct Pair {
+    pub models: [Model; 2],
+    pub draw: Option<Vec<u64>>,
+}
+
+/// Constraint lines go to the one or to the other; each has marks and limits of its own.
+pub fn pair(random: &mut Random) -> Pair {
+    let mut size = size(random);
+    match random.below(50) {
+        0 => (size.entrants, size.groups) = (ENTRANTS, GROUPS as usize),
+        1 | 2 => size.groups = GROUPS as usize,
+        3..=5 => size.entrants = ENTRANTS,
+        _ => {}
+    }
+    let planted = random.chance(60);
+    let mut sets: Vec<u64> = (0..size.groups).map(|_| random_set(random, size.entrants)).collect();
+    let (ones, others) = lines(random, &size, &mut sets, planted).into_iter().partition(|_| random.chance(50));
+    let models = [ones, others].map(|constraints| {
+        let style = Style::any(random);
+        let groups = sets.iter().map(|&set| style.group(random, size.entrants, set, planted)).collect();
+        Model { entrants: size.entrants, groups, constraints }
+    });
+    Pair { models, draw: planted.then_some(sets) }
+}
+
 fn size(random: &mut Random) -> Size {
     let (entrants, groups, lines) = match random.below(200) {
         0..=99 => (4, 5, 4),
@@ -67,7 +93,7 @@ fn lines(random: &mut Random, size: &Size, sets: &mut [u64], planted: bool) -> V
 }
 
 /// A line of any code for which there are groups enough.
-fn line(random: &mut Random, groups: usize) -> Option<Constraint> {
+pub fn line(random: &mut Random, groups: usize) -> Option<Constraint> {
     let most = match groups {
         0 | 1 => return None,
         2 => 2,

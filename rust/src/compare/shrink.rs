@@ -48,16 +48,63 @@ impl Shrinker<'_> {
         sheet::read(self.best.sheet()?).ok()
     }
 
-    /// Tries every way once; whether one of them worked.
+    /// Tries every way once; whether one of them worked. Where there are two sheets, both together, then each.
     fn sweep(&mut self) -> bool {
-        let mut smaller = self.sweep_parts();
+        let mut smaller = self.sweep_parts() | self.sweep_pair();
+        for turn in 0..if self.best.pair().is_some() { 2 } else { 1 } {
+            self.best.pair().into_iter().for_each(|pair| pair.turn = turn);
+            smaller |= self.sweep_sheet();
+        }
+        smaller | self.sweep_groups()
+    }
+
+    fn sweep_sheet(&mut self) -> bool {
+        let mut smaller = false;
         while self.model().is_some() && self.sweep_model() {
             smaller = true;
         }
         if self.model().is_none() && self.best.sheet().is_some() {
             smaller |= self.sweep_text();
         }
-        smaller | self.sweep_groups()
+        smaller
+    }
+
+    /// A group, or an entrant, fewer in both sheets.
+    fn sweep_pair(&mut self) -> bool {
+        let Some([first, second]) = self.models() else { return false };
+        let (entrants, groups) = (first.entrants.min(second.entrants), first.groups.len().min(second.groups.len()));
+        let mut smaller = false;
+        for index in (0..groups).rev() {
+            smaller |= self.attempt_pair(|model| without_group(model, index), |groups| drop_group(groups, index));
+        }
+        for entrant in (0..entrants).rev() {
+            for less in [0, 1] {
+                let fewer = |model: &Model| (model.entrants > 1 && model.entrants > entrant).then(|| without_entrant(model, entrant, less));
+                smaller |= self.attempt_pair(fewer, |groups| groups.iter_mut().for_each(|set| *set = squeezed(*set, entrant)));
+            }
+        }
+        smaller
+    }
+
+    /// The models of both sheets, where the case has two and both are sheets.
+    fn models(&mut self) -> Option<[Model; 2]> {
+        let [first, second] = &self.best.pair()?.sheets;
+        Some([sheet::read(first).ok()?, sheet::read(second).ok()?])
+    }
+
+    /// The same change of both sheets, of their blank marks and of the case's groups.
+    fn attempt_pair(&mut self, smaller: impl Fn(&Model) -> Option<Model>, change: impl Fn(&mut Vec<u64>)) -> bool {
+        let Some(models) = self.models() else { return false };
+        let mut candidate = self.best.clone();
+        let Some(pair) = candidate.pair() else { return false };
+        for (model, sheet) in models.iter().zip(&mut pair.sheets) {
+            let Some(model) = smaller(model) else { return false };
+            let mut blanks = blanks::of(sheet);
+            change(&mut blanks);
+            *sheet = blanks::written(&model, &blanks);
+        }
+        candidate.groups().into_iter().for_each(change);
+        self.attempt(candidate)
     }
 
     fn sweep_model(&mut self) -> bool {
@@ -107,18 +154,8 @@ impl Shrinker<'_> {
     }
 
     fn without_group(&mut self, index: usize) -> bool {
-        let mut model = self.model().unwrap();
-        if model.groups.len() == 1 || model.constraints.iter().any(|line| line.groups.contains(&index)) {
-            return false;
-        }
-        model.groups.remove(index);
-        let numbers = model.constraints.iter_mut().flat_map(|line| line.groups.iter_mut());
-        numbers.filter(|number| **number > index).for_each(|number| *number -= 1);
-        self.attempt_both(&model, |groups| {
-            if index < groups.len() {
-                groups.remove(index);
-            }
-        })
+        let Some(model) = without_group(&self.model().unwrap(), index) else { return false };
+        self.attempt_both(&model, |groups| drop_group(groups, index))
     }
 
     /// Limits stay as they are, as far as they can, or all of them are one less.
@@ -127,18 +164,9 @@ impl Shrinker<'_> {
         if model.entrants == 1 {
             return false;
         }
-        let below = (1 << entrant) - 1;
-        let squeeze = |set: u64| set & below | set >> 1 & !below;
         [0, 1].into_iter().any(|less| {
-            let mut model = model.clone();
-            model.entrants -= 1;
-            for group in &mut model.groups {
-                group.fixed = squeeze(group.fixed);
-                group.possible = squeeze(group.possible);
-                group.high = group.high.saturating_sub(less).min(model.entrants);
-                group.low = group.low.saturating_sub(less).min(group.high);
-            }
-            self.attempt_both(&model, |groups| groups.iter_mut().for_each(|set| *set = squeeze(*set)))
+            let model = without_entrant(&model, entrant, less);
+            self.attempt_both(&model, |groups| groups.iter_mut().for_each(|set| *set = squeezed(*set, entrant)))
         })
     }
 
@@ -280,6 +308,43 @@ impl Shrinker<'_> {
         };
         candidates.into_iter().any(|candidate| self.attempt(candidate))
     }
+}
+
+/// The model without a group that no line names, unless it is the only one.
+fn without_group(model: &Model, index: usize) -> Option<Model> {
+    if model.groups.len() == 1 || model.constraints.iter().any(|line| line.groups.contains(&index)) {
+        return None;
+    }
+    let mut model = model.clone();
+    model.groups.remove(index);
+    let numbers = model.constraints.iter_mut().flat_map(|line| line.groups.iter_mut());
+    numbers.filter(|number| **number > index).for_each(|number| *number -= 1);
+    Some(model)
+}
+
+fn drop_group(groups: &mut Vec<u64>, index: usize) {
+    if index < groups.len() {
+        groups.remove(index);
+    }
+}
+
+/// The model without an entrant, and with limits less by so many, as far as they can be.
+pub fn without_entrant(model: &Model, entrant: u32, less: u32) -> Model {
+    let mut model = model.clone();
+    model.entrants -= 1;
+    for group in &mut model.groups {
+        group.fixed = squeezed(group.fixed, entrant);
+        group.possible = squeezed(group.possible, entrant);
+        group.high = group.high.saturating_sub(less).min(model.entrants);
+        group.low = group.low.saturating_sub(less).min(group.high);
+    }
+    model
+}
+
+/// The set without an entrant, those after it one lower.
+fn squeezed(set: u64, entrant: u32) -> u64 {
+    let below = (1 << entrant) - 1;
+    set & below | set >> 1 & !below
 }
 
 #[cfg(test)]

@@ -21,13 +21,14 @@ const READ: [Kind; 10] = [
 ];
 
 /// Sheets in the other calls that take one, accepted and refused.
-const OTHERS: [[Kind; 2]; 6] = [
+const OTHERS: [[Kind; 2]; 7] = [
     ["twins: settle", "twins: settle, sheet refused"],
     ["twins: block", "twins: block, sheet refused"],
     ["twins: blocks", "twins: blocks, sheet refused"],
     ["twins: close", "twins: close, sheet refused"],
     ["twins: fill", "twins: fill, sheet refused"],
     ["twins: certify", "twins: certify, sheet refused"],
+    ["twins: combine", "twins: combine, first sheet refused"],
 ];
 
 pub fn kinds() -> impl Iterator<Item = Kind> {
@@ -85,6 +86,7 @@ impl TwinCase {
             Case::Close { .. } => 3,
             Case::Fill(_) => 4,
             Case::Certificate(_) => 5,
+            Case::Combine(_) => 6,
             _ => return READ[refusal],
         };
         OTHERS[call][usize::from(refusal > 0)]
@@ -123,6 +125,7 @@ fn answer(case: &Case, other: &dyn Calls) -> Vec<u64> {
         }
         Case::Fill(fill) => fill.answer(other),
         Case::Certificate(certificate) => certificate.answer(other),
+        Case::Combine(pair) => pair.answer(other),
         _ => vec![other.read(case.sheet().unwrap_or_default())],
     }
 }

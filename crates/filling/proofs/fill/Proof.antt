@@ -3,10 +3,11 @@ use mathlib.Core.Path.{_∙_}
 use native.Mathlib.Omega.{arith}
 use borrow.Author.Needs.{needs}
 use borrow.Author.Tests.{not-true, not-false}
+use Rattle.model.proofs.Arrays.{whole-of}
 use Rattle.numbering.proofs.Models.{variables-is}
 use Rattle.propagation_laws.proofs.Ranges.{in-range}
 use Rattle.text.proofs.Writes.{kept}
-use Rattle.filling.proofs.Filling.{whole-of, ranged, fill-unsettled, fill-30, fill-26, all-length, fill-0}
+use Rattle.filling.proofs.Filling.{ranged, fill-unsettled, fill-30, fill-26, all-length, fill-0}
 use Rattle.filling.proofs.fill.Statement.{statement}
 use Rattle.filling.proofs.fill.Tie as tie
 
