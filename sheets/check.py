@@ -13,6 +13,8 @@ def is_true(code, sets):
         return first == others[0] & others[1]
     if code == 5:
         return first == others[0] - others[1]
+    if code == 7:
+        return bool(first ^ others[0])
     return first == set().union(*others)
 
 

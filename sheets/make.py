@@ -5,7 +5,7 @@ import pathlib
 import sys
 
 BARRED, OPEN, FIXED = 0, 1, 2
-WITHIN, BOTH, EITHER, LESS, UNION = 2, 3, 4, 5, 6
+WITHIN, BOTH, EITHER, LESS, UNION, DIFFER = 2, 3, 4, 5, 6, 7
 # what a line's first group is of its others
 FIRST = {BOTH: set.intersection, EITHER: set.union, LESS: set.difference, UNION: set.union}
 
@@ -33,6 +33,11 @@ class Sheet:
         whole = self.group(low, high, **marks)
         self.line(UNION, whole, *parts)
         return whole
+
+    def differ(self, groups):
+        """No two of the groups are the same."""
+        for f, g in itertools.combinations(groups, 2):
+            self.line(DIFFER, f, g)
 
     def draw(self, sets):
         """A draw as text, a group a line, from the sets of some groups by number: the others are what lines make of these."""
@@ -195,6 +200,42 @@ def bridge_too_few_places():
     return sheet
 
 
+def bridge_teams_differ():
+    """A league season of four evenings. The club registers at most six of its fourteen members; on each evening a team of four of them plays, in two pairs.
+    A team keeps at least three of the evening before; no two teams of the season are the same, and no pair plays twice.
+    Some are away. 1, the captain, is in the first pair of each team; 8, who is away on the second evening, plays on the third."""
+    sheet = Sheet(14)
+    pairs, teams = [], []
+    for evening, absent in enumerate([(13, 14), (2, 8), (5, 9, 10), (3,)]):
+        now = [sheet.group(2, 2, fixed=(1,) if p == 0 else (), barred=absent) for p in range(2)]
+        team = sheet.group(4, 4, fixed=(8,) if evening == 2 else (), barred=absent)
+        sheet.line(EITHER, team, *now)
+        pairs += now
+        teams.append(team)
+    sheet.split(teams, 4, 6)
+    for before, after in zip(teams, teams[1:]):
+        sheet.line(BOTH, sheet.group(3, 4), before, after)
+    sheet.differ(teams)
+    sheet.differ(pairs)
+    return sheet
+
+
+def bridge_one_team_twice():
+    """Five afternoons of a league, a team of four on each, no two the same. Of fourteen members 1 to 5 can come in the afternoon, and 1, the captain, always plays:
+    that makes four teams, so one of them would play twice. No mark says which: finding it is the solver's task."""
+    sheet = Sheet(14)
+    sheet.differ([sheet.group(4, 4, fixed=(1,), barred=range(6, 15)) for _ in range(5)])
+    return sheet
+
+
+def bridge_teams_alike():
+    """Three evenings of a league, a team of three or four on each, no two the same. 1, 4 and 7 always play, and 9 is the only one beside them who can come; on the first evening 9 is promised a place.
+    So 9 is left out on the second and on the third evening, and their teams are the same: settling finds it."""
+    sheet = Sheet(9)
+    sheet.differ([sheet.group(3, 4, fixed=fixed, barred=(2, 3, 5, 6, 8)) for fixed in [(1, 4, 7, 9), (1, 4, 7), (1, 4, 7)]])
+    return sheet
+
+
 # the groups of the mixed weekend, on which both committees agreed: the men and the ladies of the club, the flights of Saturday and Sunday, the men and the ladies in each of them,
 # all who play on Saturday and on Sunday, and for each flight of Saturday beside each of Sunday the men who are in both, and the ladies
 THE_MEN, THE_LADIES = 1, 2
@@ -288,6 +329,9 @@ SHEETS = {
     "bridge-five-at-a-table": (bridge_five_at_a_table(), "no draw, settled out"),
     "bridge-pairs-within-tables": (bridge_pairs_within_tables(), "draw"),
     "bridge-too-few-places": (bridge_too_few_places(), "no draw, settled out"),
+    "bridge-teams-differ": (bridge_teams_differ(), "draw"),
+    "bridge-one-team-twice": (bridge_one_team_twice(), "no draw"),
+    "bridge-teams-alike": (bridge_teams_alike(), "no draw, settled out"),
     "golf-mixed-men": (mixed(mixed_men()), "draw"),
     "golf-mixed-ladies": (mixed(mixed_ladies()), "draw"),
     "golf-mixed": (mixed(mixed_men(), mixed_ladies()), "draw"),

@@ -39,7 +39,7 @@ impl Literal {
 }
 
 impl Constraint {
-    /// Calls `visit` with each clause of the line, in order.
+    /// Calls `visit` with each clause of the line, in order; a line of code 7 has none without an X.
     pub fn each_clause(&self, mut visit: impl FnMut(&[Literal])) {
         let g = &self.groups;
         match self.code {
@@ -63,8 +63,15 @@ impl Constraint {
                 visit(&[is(g[1]), not(g[0])]);
                 visit(&[not(g[2]), not(g[0])]);
             }
-            _ => union_clauses(g[0], &g[1..], visit),
+            6 => union_clauses(g[0], &g[1..], visit),
+            _ => {}
         }
+    }
+
+    /// The clauses that tie an entrant's X in a line of code 7, in order: two literals, then X where it is true here, else -X.
+    pub fn ties(&self) -> [([Literal; 2], bool); 4] {
+        let (f, g) = (self.groups[0], self.groups[1]);
+        [([not(f), not(g)], false), ([is(f), is(g)], false), ([not(f), is(g)], true), ([is(f), not(g)], true)]
     }
 }
 

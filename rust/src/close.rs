@@ -34,7 +34,7 @@ fn satisfies(encoding: &Encoding, marks: &[u8]) -> bool {
 }
 
 /// Per group the entrants fixed and the open ones whose variable is true.
-fn groups(encoding: &Encoding, marks: &[u8]) -> Vec<u64> {
+pub(crate) fn groups(encoding: &Encoding, marks: &[u8]) -> Vec<u64> {
     let model = encoding.settled.model();
     let drawn = |index: usize, entrant: u32| {
         let open = model.groups[index].open() >> entrant & 1 == 1;

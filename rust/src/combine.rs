@@ -147,8 +147,8 @@ mod tests {
             random.shuffle(&mut numbers);
             let (code, many) = match groups {
                 1 => break,
-                2 => (random.from_to(1, 2), 2),
-                _ => random.pick(&[(1, 2), (2, 2), (3, 3), (4, 3), (5, 3), (6, 3)]),
+                2 => (random.pick(&[1, 2, 7]), 2),
+                _ => random.pick(&[(1, 2), (2, 2), (3, 3), (4, 3), (5, 3), (6, 3), (7, 2)]),
             };
             numbers.truncate(many);
             model.constraints.push(Constraint { code: code as u32, groups: numbers });

@@ -1,5 +1,6 @@
 //! The clauses of a settled table, block by block: numbering, counters, line clauses.
-use crate::model::{Constraint, Group, UNION_MAX};
+use crate::clauses::Literal;
+use crate::model::{Constraint, Group, Model, ENTRANTS, UNION_MAX};
 use crate::settle::Settled;
 
 /// Where the variables of a settled table stand.
@@ -9,6 +10,8 @@ pub struct Encoding<'a> {
     first: Vec<i32>,
     /// Each group's first counter output.
     outputs: Vec<i32>,
+    /// Each line's first X; only lines of code 7 have any.
+    differences: Vec<i32>,
     /// The number of variables, V.
     pub variables: usize,
 }
@@ -58,7 +61,7 @@ pub fn tree_outputs(size: u32) -> usize {
 
 impl<'a> Encoding<'a> {
     pub fn of(settled: &'a Settled) -> Encoding<'a> {
-        let groups = &settled.model().groups;
+        let Model { groups, constraints, .. } = settled.model();
         let mut next = 1;
         let mut number_on = |many: usize| {
             let first = next;
@@ -67,7 +70,8 @@ impl<'a> Encoding<'a> {
         };
         let first = groups.iter().map(|group| number_on(group.open().count_ones() as usize)).collect();
         let outputs = groups.iter().map(|group| number_on(Counter::of(group).map_or(0, |c| tree_outputs(c.size)))).collect();
-        Encoding { settled, first, outputs, variables: next as usize - 1 }
+        let differences = constraints.iter().map(|line| number_on(undecided(groups, line).count_ones() as usize)).collect();
+        Encoding { settled, first, outputs, differences, variables: next as usize - 1 }
     }
 
     /// Blocks without the header: s + c.
@@ -86,12 +90,16 @@ impl<'a> Encoding<'a> {
     /// The clauses of a line that are not left out, over all entrants.
     fn line_clauses(&self, line: &Constraint) -> usize {
         let model = self.settled.model();
-        let mut many = 0;
-        line.each_clause(|clause| {
+        let kept = |clause: &[Literal], entrants: u64| {
             let left_out = clause.iter().fold(0, |set, literal| set | literal.holds(&model.groups));
-            many += (model.everyone() & !left_out).count_ones() as usize;
-        });
-        many
+            (entrants & !left_out).count_ones() as usize
+        };
+        let mut many = 0;
+        line.each_clause(|clause| many += kept(clause, model.everyone()));
+        match undecided(&model.groups, line) {
+            0 => many,
+            entrants => 1 + line.ties().iter().map(|(literals, _)| kept(literals, entrants)).sum::<usize>(),
+        }
     }
 
     /// Calls `visit` with each clause of a block from 1 on, in order.
@@ -100,7 +108,11 @@ impl<'a> Encoding<'a> {
         if block <= model.groups.len() {
             self.counter_clauses(block - 1, visit);
         } else {
-            self.each_line_clause(&model.constraints[block - 1 - model.groups.len()], visit);
+            let index = block - 1 - model.groups.len();
+            match model.constraints[index].code {
+                7 => self.each_difference_clause(index, visit),
+                _ => self.each_line_clause(&model.constraints[index], visit),
+            }
         }
     }
 
@@ -116,23 +128,59 @@ impl<'a> Encoding<'a> {
     fn each_line_clause(&self, line: &Constraint, visit: &mut impl FnMut(&[i32])) {
         let model = self.settled.model();
         for entrant in 0..model.entrants {
-            let here = |set: u64| set >> entrant & 1 == 1;
             line.each_clause(|clause| {
                 let mut kept = [0; UNION_MAX as usize + 1];
-                let mut many = 0;
-                for literal in clause {
-                    if here(literal.holds(&model.groups)) {
-                        return;
-                    }
-                    if !here(literal.fails(&model.groups)) {
-                        let variable = self.variable(literal.group, entrant);
-                        kept[many] = if literal.positive { variable } else { -variable };
-                        many += 1;
-                    }
+                if let Some(many) = self.keep(clause, entrant, &mut kept) {
+                    visit(&kept[..many]);
                 }
-                visit(&kept[..many]);
             });
         }
+    }
+
+    /// By entrant the clauses that tie an X, then the clause of all X.
+    fn each_difference_clause(&self, index: usize, visit: &mut impl FnMut(&[i32])) {
+        let ties = self.settled.model().constraints[index].ties();
+        let mut all = [0; ENTRANTS as usize];
+        let mut different = 0;
+        for (entrant, x) in self.each_x(index) {
+            for (literals, positive) in &ties {
+                let mut kept = [0; 3];
+                if let Some(many) = self.keep(literals, entrant, &mut kept) {
+                    kept[many] = if *positive { x } else { -x };
+                    visit(&kept[..=many]);
+                }
+            }
+            all[different] = x;
+            different += 1;
+        }
+        if different > 0 {
+            visit(&all[..different]);
+        }
+    }
+
+    /// Keeps the literals of a clause that are not settled false for an entrant, and gives their number; none where one is settled true.
+    fn keep(&self, clause: &[Literal], entrant: u32, kept: &mut [i32]) -> Option<usize> {
+        let groups = &self.settled.model().groups;
+        let here = |set: u64| set >> entrant & 1 == 1;
+        let mut many = 0;
+        for literal in clause {
+            if here(literal.holds(groups)) {
+                return None;
+            }
+            if !here(literal.fails(groups)) {
+                let variable = self.variable(literal.group, entrant);
+                kept[many] = if literal.positive { variable } else { -variable };
+                many += 1;
+            }
+        }
+        Some(many)
+    }
+
+    /// The entrants of a line who have an X, in rising order, and their X.
+    pub fn each_x(&self, index: usize) -> impl Iterator<Item = (u32, i32)> {
+        let model = self.settled.model();
+        let entrants = undecided(&model.groups, &model.constraints[index]);
+        (0..model.entrants).filter(move |e| entrants >> e & 1 == 1).zip(self.differences[index]..)
     }
 
     /// The variable of an entrant who is open in a group.
@@ -146,6 +194,11 @@ impl<'a> Encoding<'a> {
         let counter = Counter::of(&self.settled.model().groups[group])?;
         Some((self.outputs[group], counter.size))
     }
+}
+
+/// The entrants of a line who have an X; only lines of code 7 have any.
+fn undecided(groups: &[Group], line: &Constraint) -> u64 {
+    line.different(groups).map_or(0, |pair| pair.undecided())
 }
 
 /// The clauses of a tree over `size` leaves, numbered on from `leaf`; gives the root's first output.

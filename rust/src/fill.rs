@@ -43,12 +43,13 @@ impl Constraint {
             2 => of(0) & !of(1) == 0,
             3 => of(0) == of(1) & of(2),
             5 => of(0) == of(1) & !of(2),
+            7 => of(0) != of(1),
             _ => of(0) == (1..self.groups.len()).fold(0, |union, at| union | of(at)),
         }
     }
 }
 
-/// The marks that groups give each open entrant's variable and each counter's outputs.
+/// The marks that groups give each open entrant's variable, each counter's outputs and each X.
 pub fn assignment(encoding: &Encoding, groups: &[u64]) -> Vec<u8> {
     let mut marks = vec![2; encoding.variables];
     let model = encoding.settled.model();
@@ -59,6 +60,12 @@ pub fn assignment(encoding: &Encoding, groups: &[u64]) -> Vec<u8> {
         }
         if let Some((mut next, size)) = encoding.counter_start(index) {
             count(encoding.variable(index, open[0]) as usize, size as usize, &mut next, &mut marks);
+        }
+    }
+    for (index, line) in model.constraints.iter().enumerate().filter(|(_, line)| line.code == 7) {
+        let (f, g) = (set(groups, line.groups[0]), set(groups, line.groups[1]));
+        for (entrant, x) in encoding.each_x(index) {
+            marks[x as usize - 1] = if (f ^ g) >> entrant & 1 == 1 { 1 } else { 2 };
         }
     }
     marks
@@ -173,6 +180,68 @@ mod tests {
         is_refused(E, &[1], 1, 26);
     }
 
+    const DIFFERENT: &str = "   1   2   2   1\n   2   1   0   2   1   1\n   2   2   0   2   1   1\n   3   7   1   2\n";
+
+    #[test]
+    fn x_is_true_for_who_is_in_just_one_of_two_groups() {
+        assert_eq!(filled(DIFFERENT, &[1, 3], 6), (Ok(()), vec![1, 2, 1, 1, 2, 1]));
+        assert_eq!(filled(DIFFERENT, &[1, 2], 6), (Ok(()), vec![1, 2, 2, 1, 1, 1]));
+        for same in 0..4 {
+            is_refused(DIFFERENT, &[same, same], 6, 30);
+        }
+        is_refused(DIFFERENT, &[1, 2], 4, 26);
+        // they differ by an entrant past n
+        is_refused(DIFFERENT, &[1, 1 | 1 << 2], 6, 30);
+    }
+
+    #[test]
+    fn a_wrong_x_or_all_false_is_28() {
+        let settled = settled(DIFFERENT);
+        let encoding = Encoding::of(&settled);
+        for groups in [[1, 3], [0, 3], [2, 1]] {
+            let marks = assignment(&encoding, &groups);
+            assert!(close(&encoding, true, &marks).is_ok());
+            for x in [4, 5] {
+                let mut wrong = marks.clone();
+                wrong[x] = 3 - wrong[x];
+                assert_eq!(close(&encoding, true, &wrong), Err(28));
+            }
+        }
+        // every X as it should be, and the groups the same
+        assert_eq!(close(&encoding, true, &[1, 2, 1, 2, 2, 2]), Err(28));
+    }
+
+    /// All marks and limits of two groups of two that must not be the same: as many satisfying assignments as draws, and each draw fills and closes.
+    #[test]
+    fn draws_match_assignments_one_for_one_where_groups_must_differ() {
+        let marks = (0..4).flat_map(|possible| (0..4).filter(move |fixed| fixed & !possible == 0).map(move |fixed| (fixed, possible)));
+        let limits = [(0, 2), (1, 1), (0, 1), (1, 2), (2, 2), (0, 0)];
+        let groups: Vec<Group> = marks.flat_map(|(fixed, possible)| limits.map(|(low, high)| Group { fixed, possible, low, high })).collect();
+        let (mut drawn, mut out) = (0, 0);
+        for (f, g) in groups.iter().flat_map(|&f| groups.iter().map(move |&g| (f, g))) {
+            let model = Model { entrants: 2, groups: vec![f, g], constraints: vec![Constraint { code: 7, groups: vec![1, 0] }] };
+            let draws: Vec<[u64; 2]> = (0..16).map(|word| [word & 3, word >> 2]).filter(|sets| is_draw(&model, sets)).collect();
+            assert!(draws.iter().all(|[f, g]| f != g));
+            let Some(settled) = settle(model) else {
+                assert!(draws.is_empty());
+                out += 1;
+                continue;
+            };
+            let encoding = Encoding::of(&settled);
+            let marks = |word: u32| (0..encoding.variables).map(|at| 1 + (word >> at & 1) as u8).collect::<Vec<u8>>();
+            let satisfying: Vec<_> = (0..1 << encoding.variables).map(marks).filter(|marks| close(&encoding, true, marks).is_ok()).collect();
+            assert_eq!(satisfying.len(), draws.len());
+            for draw in &draws {
+                let mut marks = vec![JUNK; encoding.variables];
+                assert_eq!(fill(&encoding, draw, &mut marks), Ok(()));
+                assert_eq!(close(&encoding, true, &marks), Ok(draw.to_vec()));
+                assert!(satisfying.contains(&marks));
+                drawn += 1;
+            }
+        }
+        assert!(drawn > 1_000 && out > 100, "{drawn} draws, {out} without");
+    }
+
     #[test]
     fn lines_of_78_columns() {
         assert_eq!(lines(&[]), "v 0\n");
@@ -193,5 +262,6 @@ mod tests {
         assert!(is_true(4, &[3, 0, 1]) && !is_true(4, &[2, 0, 1]));
         assert!(is_true(5, &[4, 0, 1]) && !is_true(5, &[4, 1, 0]));
         assert!(is_true(6, &[6, 0, 1, 5]) && !is_true(6, &[3, 0, 1, 5]));
+        assert!(is_true(7, &[0, 1]) && is_true(7, &[2, 0]) && !is_true(7, &[0, 0]));
     }
 }

@@ -5,6 +5,7 @@ pub mod clauses;
 pub mod close;
 pub mod combine;
 pub mod compare;
+pub mod different;
 pub mod encode;
 pub mod fill;
 pub mod listing;

@@ -49,10 +49,16 @@ fn push_header(encoding: &Encoding, text: &mut Vec<u8>) {
     text.push(b'\n');
 }
 
-/// The longest clause: 17 literals of a sign, five digits and a space each, then `0` and the newline.
-const CLAUSE_BYTES: usize = 17 * 7 + 2;
+/// The literals of the longest clause but for the last of a line of code 7.
+const LITERALS: usize = 17;
+
+/// Such a clause: a sign, five digits and a space for each literal, then `0` and the newline.
+const CLAUSE_BYTES: usize = LITERALS * 7 + 2;
 
 fn push_clause(clause: &[i32], text: &mut Vec<u8>) {
+    if clause.len() > LITERALS {
+        return push_long_clause(clause, text);
+    }
     let mut bytes = [0; CLAUSE_BYTES];
     let mut at = bytes.len() - 2;
     bytes[at..].copy_from_slice(b"0\n");
@@ -66,6 +72,19 @@ fn push_clause(clause: &[i32], text: &mut Vec<u8>) {
         }
     }
     text.extend_from_slice(&bytes[at..]);
+}
+
+/// The last clause of a line of code 7, of up to 32 literals.
+#[cold]
+fn push_long_clause(clause: &[i32], text: &mut Vec<u8>) {
+    for &literal in clause {
+        if literal < 0 {
+            text.push(b'-');
+        }
+        push_number(literal.unsigned_abs(), text);
+        text.push(b' ');
+    }
+    text.extend_from_slice(b"0\n");
 }
 
 /// Appends the number in decimal.
@@ -142,6 +161,63 @@ mod tests {
             assert_eq!(write_block(encoding, 4, &mut []), Err(23));
         });
         with(E, |encoding| assert_eq!(write_block(encoding, 1, &mut []), Ok(0)));
+    }
+
+    /// Two groups of two, all marks open: nothing is dropped or left out.
+    #[test]
+    fn two_groups_that_must_not_be_the_same() {
+        let sheet = "   1   2   2   1\n   2   1   0   2   1   1\n   2   2   0   2   1   1\n   3   7   1   2\n";
+        let one = "-1 -3 -5 0\n1 3 -5 0\n-1 3 5 0\n1 -3 5 0\n";
+        let two = "-2 -4 -6 0\n2 4 -6 0\n-2 4 6 0\n2 -4 6 0\n";
+        let wanted = format!("p cnf 6 9\n{one}{two}5 6 0\n");
+        assert_eq!(String::from_utf8(with(sheet, listing)).unwrap(), wanted);
+    }
+
+    /// X after the counter of group 1, on from line to line, with a line of another code between; entrants fixed and barred in one of the groups.
+    #[test]
+    fn x_are_numbered_after_all_counters_by_line_and_entrant() {
+        let groups = "   2   1   1   1   1   1   1\n   2   2   0   3   1   2   0\n   2   3   0   3   1   1   1\n";
+        let lines = "   3   7   2   1\n   3   2   2   3\n   3   7   1   3\n";
+        let first = "-4 -1 -12 0\n4 1 -12 0\n-4 1 12 0\n4 -1 12 0\n-2 -13 0\n2 13 0\n3 -14 0\n-3 14 0\n12 13 14 0\n";
+        let second = "-1 -5 -15 0\n1 5 -15 0\n-1 5 15 0\n1 -5 15 0\n-2 -16 0\n2 16 0\n-3 -6 -17 0\n3 6 -17 0\n-3 6 17 0\n3 -6 17 0\n15 16 17 0\n";
+        with(&format!("   1   3   3   3\n{groups}{lines}"), |encoding| {
+            let text = String::from_utf8(listing(encoding)).unwrap();
+            assert!(text.starts_with("p cnf 17 40\n"), "{text}");
+            assert!(text.ends_with(&format!("{first}-4 5 0\n{second}")), "{text}");
+            assert_eq!(text.lines().count(), 41);
+        });
+    }
+
+    #[test]
+    fn a_line_that_differs_already_has_no_variables_and_no_clauses() {
+        let sheet = "   1   2   3   2\n   2   1   0   2   2   1\n   2   2   0   2   0   1\n   2   3   0   2   0   0\n   3   7   1   2\n   3   7   3   2\n";
+        // group 2 must not be empty, so entrant 2 is fixed in it and differs from group 3
+        assert_eq!(with(sheet, listing), b"p cnf 1 0\n");
+        let open = sheet.replace("   2   1   0   2   2   1", "   2   1   0   2   1   1").replace("   3   7   3   2", "   3   7   2   3");
+        assert_eq!(with(&open, listing), b"p cnf 4 5\n1 -3 0\n-1 3 0\n-2 -4 0\n2 4 0\n3 4 0\n");
+    }
+
+    /// The only entrant who is not settled alike is open in both: a last clause of one X.
+    #[test]
+    fn a_last_clause_of_one_x_and_none_for_those_settled_alike() {
+        let sheet = "   1   3   2   1\n   2   1   0   3   2   1   0\n   2   2   0   3   2   1   0\n   3   7   1   2\n";
+        assert_eq!(with(sheet, listing), b"p cnf 3 5\n-1 -2 -3 0\n1 2 -3 0\n-1 2 3 0\n1 -2 3 0\n3 0\n");
+    }
+
+    #[test]
+    fn as_many_variables_as_there_can_be() {
+        let group = Group { fixed: 0, possible: u32::MAX.into(), low: 1, high: 31 };
+        let line = |first: usize| Constraint { code: 7, groups: vec![first, (first + 1) % 256] };
+        let model = Model { entrants: 32, groups: vec![group; 256], constraints: (0..256).map(line).collect() };
+        let settled = settle(model).unwrap();
+        let encoding = Encoding::of(&settled);
+        let text = String::from_utf8(listing(&encoding)).unwrap();
+        assert!(text.starts_with("p cnf 57344 369408\n"));
+        assert_eq!(text.lines().count(), 369_409);
+        let last: String = (57_313..=57_344).map(|x| format!("{x} ")).collect();
+        assert!(text.ends_with(&format!("\n8192 -32 57344 0\n{last}0\n")));
+        let mut buffer = vec![0; 32_768];
+        assert!((0..=512).all(|block| write_block(&encoding, block, &mut buffer).is_ok()));
     }
 
     #[test]

@@ -6,6 +6,8 @@ pub const LINES: u32 = 256;
 pub const SHEET_BYTES: usize = 57_873;
 pub const UNION_MIN: u32 = 2;
 pub const UNION_MAX: u32 = 16;
+/// The largest V: 256 groups of 32 entrants, each with a counter, and 256 lines of code 7 with 32 X each.
+pub const MOST_VARIABLES: usize = 57_344;
 
 #[derive(Clone, Copy, Debug, PartialEq, Eq)]
 pub struct Group {

@@ -1,5 +1,6 @@
 //! Settling: group rule and line rule, pass after pass, until nothing changes.
 use crate::clauses::Literal;
+use crate::different::Different;
 use crate::model::{Constraint, Group, Model};
 use crate::refusal::UNSETTLED;
 
@@ -15,7 +16,7 @@ impl Settled {
     pub fn given(model: Model) -> Result<Settled, u32> {
         let mut groups = model.groups.clone();
         let changed = pass(model.everyone(), &mut groups, &model.constraints);
-        if changed || groups.iter().any(contradictory) {
+        if changed || contradictory(&groups, &model.constraints) {
             return Err(UNSETTLED);
         }
         Ok(Settled { model, passes: 1 })
@@ -38,7 +39,7 @@ pub fn settle(mut model: Model) -> Option<Settled> {
     loop {
         let changed = pass(everyone, &mut model.groups, &model.constraints);
         passes += 1;
-        if model.groups.iter().any(contradictory) {
+        if contradictory(&model.groups, &model.constraints) {
             return None;
         }
         if !changed {
@@ -47,15 +48,22 @@ pub fn settle(mut model: Model) -> Option<Settled> {
     }
 }
 
-pub(crate) fn contradictory(group: &Group) -> bool {
-    group.fixed & !group.possible != 0 || group.low > group.high
+/// Whether a table is 21 after a pass: an entrant fixed but not possible, low above high, or all settled alike in groups that must not be the same.
+pub(crate) fn contradictory(groups: &[Group], constraints: &[Constraint]) -> bool {
+    let in_group = |group: &Group| group.fixed & !group.possible != 0 || group.low > group.high;
+    groups.iter().any(in_group) || constraints.iter().any(|line| all_alike(groups, line))
+}
+
+/// Whether a line of code 7 has all entrants settled alike.
+pub(crate) fn all_alike(groups: &[Group], line: &Constraint) -> bool {
+    line.different(groups).is_some_and(|pair| pair.not_alike() == 0)
 }
 
 /// One pass. Whether it changed anything: sets and limits only ever move one way, so no change is undone.
 fn pass(everyone: u64, groups: &mut [Group], constraints: &[Constraint]) -> bool {
     let mut changed = group_rules(groups);
     for line in constraints {
-        changed |= clause_rules(everyone, groups, line);
+        changed |= mark_rules(everyone, groups, line);
         changed |= limit_rules(groups, line);
     }
     changed
@@ -83,8 +91,11 @@ fn group_rule(group: &mut Group) {
     }
 }
 
-/// The first half of the line rule: what the line's clauses make true.
-pub(crate) fn clause_rules(everyone: u64, groups: &mut [Group], line: &Constraint) -> bool {
+/// The first half of the line rule: what the line's clauses make true, or of code 7 its own rule.
+pub(crate) fn mark_rules(everyone: u64, groups: &mut [Group], line: &Constraint) -> bool {
+    if line.code == 7 {
+        return difference_rule(groups, line);
+    }
     let mut changed = false;
     line.each_clause(|clause| changed |= clause_rule(everyone, groups, clause));
     changed
@@ -122,15 +133,32 @@ fn make_true(literal: Literal, entrants: u64, groups: &mut [Group]) -> bool {
     *group != before
 }
 
+/// Where all entrants but one are settled alike, and that one is settled in one of the groups: it is settled the opposite way in the other.
+fn difference_rule(groups: &mut [Group], line: &Constraint) -> bool {
+    let (f, g) = (groups[line.groups[0]], groups[line.groups[1]]);
+    let left = Different { f: &f, g: &g }.not_alike();
+    left.is_power_of_two() && settle_opposite(&f, &mut groups[line.groups[1]], left) | settle_opposite(&g, &mut groups[line.groups[0]], left)
+}
+
+/// Settles the entrant in a group where it is open, the opposite way to another group where it is settled.
+fn settle_opposite(from: &Group, to: &mut Group, entrant: u64) -> bool {
+    let open = entrant & to.open();
+    let (bars, fixes) = (open & from.fixed, open & !from.possible);
+    to.possible &= !bars;
+    to.fixed |= fixes;
+    bars | fixes != 0
+}
+
 /// The second half of the line rule: the limits that pass along the line.
-fn limit_rules(groups: &mut [Group], line: &Constraint) -> bool {
+pub(crate) fn limit_rules(groups: &mut [Group], line: &Constraint) -> bool {
     let g = &line.groups;
     match line.code {
         1 => within(groups, g[0], g[1]) | within(groups, g[1], g[0]),
         2 => within(groups, g[0], g[1]),
         3 => within(groups, g[0], g[1]) | within(groups, g[0], g[2]),
         5 => within(groups, g[0], g[1]),
-        _ => union(groups, g[0], &g[1..]),
+        4 | 6 => union(groups, g[0], &g[1..]),
+        _ => false,
     }
 }
 
@@ -303,6 +331,115 @@ mod tests {
         let backwards: Vec<_> = lines.iter().rev().copied().collect();
         assert_eq!(limits(9, &given, &lines), Some((vec![(2, 6); 10], 10)));
         assert_eq!(limits(9, &given, &backwards), Some((vec![(2, 6); 10], 10)));
+    }
+
+    /// Two groups without limits that must not be the same, by the marks of each and the groups in the line's order.
+    fn different(f: &str, g: &str, line: &str) -> Model {
+        let n = f.len() / 4;
+        read(format!("   1{n:4}   2   1\n   2   1   0{n:4}{f}\n   2   2   0{n:4}{g}\n   3   7{line}\n").as_bytes()).unwrap()
+    }
+
+    /// The marks that the groups settle with, and the passes.
+    fn marks(model: Model) -> Option<([String; 2], u32)> {
+        let settled = settle(model)?;
+        let mark = |group: &Group, e: u32| format!("{:4}", (group.fixed >> e & 1) + (group.possible >> e & 1));
+        let marks = [0, 1].map(|at| (0..settled.model().entrants).map(|e| mark(&settled.model().groups[at], e)).collect());
+        Some((marks, settled.passes()))
+    }
+
+    #[test]
+    fn the_only_one_not_settled_alike_is_settled_the_opposite_way() {
+        for line in ["   1   2", "   2   1"] {
+            for (f, g, settled_f, settled_g) in [
+                ("   2   0   2", "   2   0   1", "   2   0   2", "   2   0   0"),
+                ("   2   0   0", "   2   0   1", "   2   0   0", "   2   0   2"),
+                ("   1   0   2", "   2   0   2", "   0   0   2", "   2   0   2"),
+                ("   2   1   2", "   2   0   2", "   2   2   2", "   2   0   2"),
+                ("   2", "   1", "   2", "   0"),
+                ("   1", "   0", "   2", "   0"),
+            ] {
+                assert_eq!(marks(different(f, g, line)), Some(([settled_f.to_string(), settled_g.to_string()], 3)), "{f} {g}");
+            }
+        }
+    }
+
+    #[test]
+    fn code_7_does_nothing_else() {
+        for (f, g) in [
+            // two are not settled alike, each settled in one group; one is open in both; one differs already
+            ("   2   0   2", "   2   1   1"),
+            ("   2   1   2", "   2   2   1"),
+            ("   2   0   1", "   2   0   1"),
+            ("   1", "   1"),
+            ("   2   0   1", "   0   0   2"),
+            ("   2   1   1", "   0   1   1"),
+        ] {
+            let model = different(f, g, "   1   2");
+            assert_eq!(marks(model).unwrap().0, [f, g], "{f} {g}");
+        }
+    }
+
+    #[test]
+    fn all_settled_alike_is_21() {
+        for (f, g) in [("   2   0   2", "   2   0   2"), ("   0", "   0"), ("   2", "   2")] {
+            assert_eq!(settle(different(f, g, "   1   2")), None, "{f} {g}");
+        }
+        // alike after the group rule, after a line before it, after a line behind it
+        let groups = |marks: &str| format!("   2   1   0   1   2   0\n   2   2   0   1{marks}\n   2   3   0   2   2   1\n");
+        assert_eq!(settled(&format!("   1   2   3   1\n{}   3   7   1   2\n", groups("   2   1"))), None);
+        assert_eq!(settled(&format!("   1   2   3   2\n{}   3   1   1   3\n   3   7   3   1\n", groups("   1   1"))), None);
+        assert_eq!(settled(&format!("   1   2   3   2\n{}   3   7   3   1\n   3   1   1   3\n", groups("   1   1"))), None);
+    }
+
+    /// It is no table that a pass would change, and the same with limits that fit would be settled but for the line.
+    #[test]
+    fn a_table_that_stands_alike_is_22() {
+        let mut model = different("   2   0", "   2   0", "   1   2");
+        model.groups.iter_mut().for_each(|group| (group.low, group.high) = (1, 1));
+        assert_eq!(Settled::given(model.clone()), Err(22));
+        model.constraints.clear();
+        assert!(Settled::given(model).is_ok());
+    }
+
+    #[test]
+    fn a_table_that_code_7_changes_is_22() {
+        let mut model = different("   2   0", "   2   1", "   2   1");
+        (model.groups[0].low, model.groups[0].high, model.groups[1].low) = (1, 1, 1);
+        assert_eq!(Settled::given(model.clone()), Err(22));
+        let settled = settle(model).unwrap().model().clone();
+        assert!(Settled::given(settled).is_ok());
+    }
+
+    #[test]
+    fn code_7_looks_at_the_newest_table() {
+        let groups = "   2   1   0   1   2\n   2   2   0   1   1\n   2   3   0   1   1\n";
+        let along = settled(&format!("   1   1   3   2\n{groups}   3   1   1   2\n   3   7   2   3\n")).unwrap();
+        let against = settled(&format!("   1   1   3   2\n{groups}   3   7   2   3\n   3   1   1   2\n")).unwrap();
+        assert_eq!(along.model().groups, against.model().groups);
+        assert_eq!(along.model().groups.iter().map(|group| (group.fixed, group.possible)).collect::<Vec<_>>(), [(1, 1), (1, 1), (0, 0)]);
+        assert_eq!((along.passes(), against.passes()), (3, 4));
+    }
+
+    /// All marks of two groups of three, without limits: what the words of the request make of them, mark by mark.
+    #[test]
+    fn code_7_by_the_words_of_the_request() {
+        let spelled = |word: u32| vec![word % 3, word / 3 % 3, word / 9];
+        let text = |marks: &[u32]| marks.iter().map(|mark| format!("{mark:4}")).collect::<String>();
+        for (f, g) in (0..27).flat_map(|f| (0..27).map(move |g| (spelled(f), spelled(g)))) {
+            let model = different(&text(&f), &text(&g), "   1   2");
+            let left: Vec<usize> = (0..3).filter(|&e| f[e] == 1 || f[e] != g[e]).collect();
+            let mut wanted = [f, g];
+            if let [alone] = left[..] {
+                match [wanted[0][alone], wanted[1][alone]] {
+                    [1, 1] => {}
+                    [1, settled] => wanted[0][alone] = 2 - settled,
+                    [settled, 1] => wanted[1][alone] = 2 - settled,
+                    _ => {}
+                }
+            }
+            let settled = marks(model).map(|(marks, _)| marks);
+            assert_eq!(settled, (!left.is_empty()).then(|| wanted.map(|marks| text(&marks))));
+        }
     }
 
     #[test]

@@ -91,7 +91,7 @@ fn group_of(n: u32, group: Group) -> Option<Group> {
 /// A code and its k as on a sheet, groups 1 to s, all different.
 fn line_of(s: u32, code: u32, k: u32, members: &[u32]) -> Option<Constraint> {
     let many = match code {
-        1 | 2 => 2,
+        1 | 2 | 7 => 2,
         3..=5 => 3,
         6 if (UNION_MIN..=UNION_MAX).contains(&k) => 1 + k as usize,
         _ => return None,
@@ -116,10 +116,23 @@ mod tests {
         }
     }
 
+    /// Its count is ignored, and what stands past its two groups.
+    #[test]
+    fn a_line_of_code_7() {
+        let words = to_words(&read(SHEET.replace("   3   2   1   2\n", "   3   7   1   2\n").as_bytes()).unwrap(), 0);
+        assert_eq!(words[1027..1032], [7, 0, 1, 2, 0]);
+        for (place, value, wanted) in [(1028, 17, Ok(7)), (1028, u64::MAX, Ok(7)), (1031, 1, Ok(7)), (1031, 257, Ok(7)), (1029, 2, Err(20)), (1030, 3, Err(20))]
+        {
+            let mut words = words.clone();
+            words[place] = value;
+            assert_eq!(from_words(&words).map(|model| model.constraints[0].code), wanted, "word {place} as {value}");
+        }
+    }
+
     #[test]
     fn refusal_20_by_each_field() {
         let words = to_words(&read(SHEET.as_bytes()).unwrap(), 0);
-        let bad = [(0, 33), (1, 257), (1, 1), (2, 257), (3, 16), (4, 8), (5, 2), (6, 4), (1027, 7), (1027, 6), (1029, 3), (1029, 2), (1030, 0)];
+        let bad = [(0, 33), (1, 257), (1, 1), (2, 257), (3, 16), (4, 8), (5, 2), (6, 4), (1027, 0), (1027, 6), (1027, 8), (1029, 3), (1029, 2), (1030, 0)];
         for (place, value) in bad {
             let mut words = words.clone();
             words[place] = value;

@@ -1,36 +1,31 @@
 -- What a settled model gives the block writer: each block's text. Assumes nothing.
-use mathlib.Core.Path.{_≡_, refl, sym, ap, _∙_, subst}
+use mathlib.Core.Path.{_≡_, sym, ap, _∙_, subst}
 use mathlib.Core.Bool.{Bool, cond}
-use mathlib.Core.List.{List, [], _∷_}
+use mathlib.Core.List.{List, []}
 use Prim.Native.Nat.{ℕ, zero, suc, _+_, _-_, _≤_, _<_}
 use native.Mathlib.Omega.{arith}
 use lib.Dec.{T, eqb·suc-zero}
-use lib.ListN.{length, getD, take, length-take}
+use lib.ListN.{getD, take, length-take}
 use lib.Seq.{getD-take}
 use Rattle.model.specs.declared.Group.{Group}
 use Rattle.model.specs.declared.Constraint.{Constraint}
 use Rattle.model.specs.declared.Model.{Model}
-use Rattle.model.specs.Lists.{each}
+use Rattle.model.specs.Lists.{each, total}
 use Rattle.model.specs.Limits.{limits}
 use Rattle.model.specs.Model.{zeroGroup, zeroConstraint, groupAt, tableOf, constraintsOf, constraintInRange, inRange}
 use Rattle.model.specs.Propagate.{Settled}
-use Rattle.model.specs.Cnf.{openCount, outputsOf, tableVariables, variableCount, firstVariable, firstOutput, groupClauses, constraintClauses, blockClauses, blockCount}
+use Rattle.model.specs.Cnf.{openCount, outputsOf, tableVariables, variableCount, firstVariable, firstOutput, differenceCount, firstDifference, groupClauses, constraintClauses, blockClauses, blockCount}
 use Rattle.model.specs.Text.{clauseText, headerText, blockText}
-use Rattle.model.proofs.Lists.{T-true, all-place, total-place, every-getD}
+use Rattle.model.proofs.Lists.{T-true, all-place, total-place, every-getD, getD-other}
 use Rattle.propagation_laws.proofs.Ranges.{in-range}
 use Rattle.encoding_laws.proofs.Fixpoint.{SettledAmong}
 use Rattle.encoding_laws.proofs.Groups.{table-length, group-block, constraint-block}
 use Rattle.encoding_laws.proofs.Bounds.{variables-bound}
 use Rattle.numbering.specs.declared.Numbering.{Numbering}
 use Rattle.numbering.specs.Numbering.{numberingOf}
-use Rattle.numbering.proofs.Models.{first-is, outputs-are, variable-from, output-from}
-use Rattle.counts.proofs.Settled.{groups-settled, groups-few}
+use Rattle.numbering.proofs.Models.{first-is, outputs-are, differences-are, variable-from, output-from, difference-from}
+use Rattle.counts.proofs.Settled.{groups-settled, groups-few, constraints-few}
 use Rattle.cnf.specs.Parts.{groupText, Among}
-
-getD-other : {A : Type 0} (xs : List A) (i : ℕ) (d e : A) → i < length xs → getD xs i d ≡ getD xs i e
-getD-other [] i d e h = absurd (omega arith)
-getD-other (x ∷ xs) zero d e h = refl
-getD-other (x ∷ xs) (suc i) d e h = getD-other xs i d e (omega arith)
 
 -- ---- the blocks
 
@@ -82,12 +77,23 @@ module _ (m : Model) (q : Settled m) where
         (omega (arith, length-take (m .c) (m .constraints), q .sized .constraints)))
 
     block-constraint : (b : ℕ) → m .s < b → b ≤ m .s + m .c
-        → each clauseText (constraintClauses (m .n) table (getD (m .constraints) (b - 1 - m .s) d)) ≡ blockText m b
+        → each clauseText (constraintClauses (m .n) table (firstDifference (1 + tableVariables table) m (b - m .s)) (getD (m .constraints) (b - 1 - m .s) d))
+        ≡ blockText m b
     block-constraint b h k =
         let e : b - 1 - m .s ≡ b - m .s - 1 = omega arith in
-        ap (λ (c : Constraint). each clauseText (constraintClauses (m .n) table c))
+        ap (λ (c : Constraint). each clauseText (constraintClauses (m .n) table (firstDifference (1 + tableVariables table) m (b - m .s)) c))
         (sym (constraint-is (b - 1 - m .s) (omega arith)) ∙ ap (λ (j : ℕ). getD (constraintsOf m) j zeroConstraint) e)
         ∙ sym (body-text b (omega arith) ∙ ap (each clauseText) (constraint-block m (q .sized) b h))
+
+    -- its X are among those that a listing may have
+    difference-among : (j : ℕ) → j < m .c
+        → Among (1 + tableVariables table + total (differenceCount table) (take j (constraintsOf m))) (differenceCount table (getD (m .constraints) j d))
+    unfolding variableCount constraintsOf
+    difference-among j h =
+        let cs = take (m .c) (m .constraints) in
+        let p = total-place (differenceCount table) cs j zeroConstraint (omega (arith, length-take (m .c) (m .constraints), q .sized .constraints)) in
+        let is = ap (differenceCount table) (constraint-is j h) in
+        omega (arith, p, is, variables-bound m q)
 
 -- ---- what the entry's parts ask of a settled model
 
@@ -131,12 +137,31 @@ module _ (m : Model) (q : Settled m) where
     in-model : b ≤ m .s + m .c
     in-model = unfold blockCount in k
 
-    pub here-in-range : T (constraintInRange (m .s) (getD (m .constraints) (b - 1 - m .s) d))
-    here-in-range = constraint-good m q d (b - 1 - m .s) (omega (arith, in-model))
-
-    pub here-block : each clauseText (constraintClauses (m .n) (take (m .s) (m .groups)) (getD (m .constraints) (b - 1 - m .s) d)) ≡ blockText m b
-    unfolding tableOf
-    here-block = block-constraint m q d b h in-model
-
     pub place-in-model : b - 1 - m .s < m .c
     place-in-model = omega (arith, in-model)
+
+    pub here-in-range : T (constraintInRange (m .s) (getD (m .constraints) (b - 1 - m .s) d))
+    here-in-range = constraint-good m q d (b - 1 - m .s) place-in-model
+
+    module _ (v : Numbering) (e : v ≡ numberingOf m) where
+      x-is : getD (v .differences) (b - 1 - m .s) 0 ≡ 1 + tableVariables (tableOf m) + total (differenceCount (tableOf m)) (take (b - 1 - m .s) (constraintsOf m))
+      unfolding tableOf constraintsOf
+      x-is =
+          difference-from (1 + tableVariables (tableOf m)) (tableOf m) (constraintsOf m) (v .differences) (b - 1 - m .s)
+          (omega (arith, place-in-model, constraints-few m q)) (differences-are m v e)
+
+      pub x-some : 1 ≤ getD (v .differences) (b - 1 - m .s) 0
+      x-some = omega (arith, x-is)
+
+      pub x-among : Among (getD (v .differences) (b - 1 - m .s) 0) (differenceCount (take (m .s) (m .groups)) (getD (m .constraints) (b - 1 - m .s) d))
+      unfolding tableOf
+      x-among = rw x-is (difference-among m q d (b - 1 - m .s) place-in-model)
+
+      pub here-block : each clauseText (constraintClauses (m .n) (take (m .s) (m .groups)) (getD (v .differences) (b - 1 - m .s) 0) (getD (m .constraints) (b - 1 - m .s) d))
+          ≡ blockText m b
+      unfolding tableOf firstDifference
+      here-block =
+          let i : b - 1 - m .s ≡ b - m .s - 1 = omega arith in
+          ap (λ (x : ℕ). each clauseText (constraintClauses (m .n) (tableOf m) x (getD (m .constraints) (b - 1 - m .s) d)))
+          (x-is ∙ ap (λ (j : ℕ). 1 + tableVariables (tableOf m) + total (differenceCount (tableOf m)) (take j (constraintsOf m))) i)
+          ∙ block-constraint m q d b h in-model

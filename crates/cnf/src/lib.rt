@@ -2,12 +2,14 @@
 mod totalizer;
 
 ghost use mathlib.Core.Path.{_≡_};
+ghost use mathlib.Core.List.{map};
 ghost use lib.Dec.{T, leb};
 ghost use Prim.Native.Nat.{_+_, _*_, _≤_};
 ghost use lib.ListN.{length, take};
-ghost use Rattle.model.specs.Lists.{each};
+ghost use Rattle.model.specs.declared.Literal.the-variants.{Pos};
+ghost use Rattle.model.specs.Lists.{each, range};
 ghost use Rattle.model.specs.Limits.{limits};
-ghost use Rattle.model.specs.Cnf.{openCount, outputsOf, constraintClauses, blockCount};
+ghost use Rattle.model.specs.Cnf.{openCount, outputsOf, differenceCount, constraintClauses, blockCount};
 ghost use Rattle.model.specs.Model.{constraintInRange};
 ghost use Rattle.model.specs.Propagate.{Settled};
 ghost use Rattle.model.proofs.Lists.{All};
@@ -21,6 +23,7 @@ ghost use Rattle.cnf.specs.Run.{runOf, runBuffer};
 ghost use Rattle.cnf.specs.Parts.{groupText, entrantText, constraintText, blockLength, Among};
 use model::Constraint;
 use model::Group;
+use model::Literal;
 use model::Model;
 use model::Written;
 use numbering::Numbering;
@@ -91,7 +94,22 @@ fn put_constraint(
     x
 }
 
-// The clauses of constraint c among the first s groups.
+// The clause of the k variables from x on.
+fn put_rising(buf: &mut [u8], at: usize, x: u32, k: u32) -> usize
+    requires { ⌜ Among x k ⌝ }
+    requires { ⌜ at + length (clauseText (map Pos (range x k))) ≤ length (now buf) ⌝ }
+    ensures { λ r. ⌜ Wrote (clauseText (map Pos (range x k))) at (now (buf .entry)) (now (buf .exit)) r ⌝ }
+{
+    let mut n = at;
+    let mut i = 0;
+    while i < k {
+        n = text::put_literal(buf, n, Literal::Pos(x + i));
+        i += 1;
+    }
+    text::put_bytes(buf, n, b"0\n")
+}
+
+// The clauses of constraint c among the first s groups, whose X, if it has any, are numbered from x on.
 fn put_constraint_block(
     buf: &mut [u8],
     at: usize,
@@ -100,17 +118,27 @@ fn put_constraint_block(
     first: [u32; Model::GROUPS],
     c: Constraint,
     n: u32,
+    x: u32,
 ) -> usize
     requires { ⌜ (s ≤ limits .groups) × (n ≤ limits .entrants) ⌝ }
-    requires { ⌜ All (SettledAmong (limits .entrants)) (take s groups) × (first ≡ firstVariables (take s groups)) ⌝ }
-    requires { ⌜ T (constraintInRange s c) ⌝ }
-    requires { ⌜ at + length (each clauseText (constraintClauses n (take s groups) c)) ≤ length (now buf) ⌝ }
-    ensures { λ r. ⌜ Wrote (each clauseText (constraintClauses n (take s groups) c)) at (now (buf .entry)) (now (buf .exit)) r ⌝ }
+    requires { ⌜ All (SettledAmong n) (take s groups) × (first ≡ firstVariables (take s groups)) ⌝ }
+    requires { ⌜ T (constraintInRange s c) × (1 ≤ x) × Among x (differenceCount (take s groups) c) ⌝ }
+    requires { ⌜ at + length (each clauseText (constraintClauses n (take s groups) x c)) ≤ length (now buf) ⌝ }
+    ensures { λ r. ⌜ Wrote (each clauseText (constraintClauses n (take s groups) x c)) at (now (buf .entry)) (now (buf .exit)) r ⌝ }
 {
-    let k = range::member_count(c.code, c.count);
     let ids = c.groups;
-    let ms = terms::members(groups, first, ids, k);
-    put_constraint(buf, at, ms, k, c.code, c.count, n)
+    if c.code != 7 {
+        let k = range::member_count(c.code, c.count);
+        let ms = terms::members(groups, first, ids, k);
+        return put_constraint(buf, at, ms, k, c.code, c.count, n);
+    }
+    if difference::is_apart(groups, s, c) {
+        return at;
+    }
+    let o = difference::differing(groups, s, c);
+    let ms = terms::difference_members(groups, first, ids, o, x);
+    let y = put_constraint(buf, at, ms, 3, c.code, c.count, n);
+    put_rising(buf, y, x, u64::count_ones(o))
 }
 
 // ---- blocks
@@ -147,8 +175,9 @@ fn put_block(buf: &mut [u8], at: usize, m: Model, v: Numbering, b: u32) -> usize
     }
     let groups = m.groups;
     let first = v.first;
-    let c = m.constraints[i - s];
-    put_constraint_block(buf, at, groups, s, first, c, m.n)
+    let j = i - s;
+    let c = m.constraints[j];
+    put_constraint_block(buf, at, groups, s, first, c, m.n, v.differences[j])
 }
 
 // ---- the entry

@@ -1,4 +1,4 @@
--- The table of codes 1 to 5: nothing stands past it, and a test of every place that antt computes. Assumes nothing.
+-- The table of codes 1 to 5 and 7: nothing stands past it, and a test of every place that antt computes. Assumes nothing.
 use mathlib.Core.Path.{_≡_, refl, ap, _∙_}
 use Prim.Native.Nat.{ℕ, zero, suc, _+_, _-_, _*_, _/_, _%_, _≤_, _<_}
 use native.Mathlib.Omega.{arith}
@@ -25,37 +25,37 @@ below2 n m p t i j h l = below m (p i) (below n (λ i. every (p i) (range 0 m)) 
 
 -- ---- past the table
 
-past-six : (c : ℕ) → shortClauses (suc (suc (suc (suc (suc (suc c)))))) ≡ []
+past-eight : (c : ℕ) → shortClauses (suc (suc (suc (suc (suc (suc (suc (suc c)))))))) ≡ []
 unfolding shortClauses
-past-six c = refl
+past-eight c = refl
 
-pub past-code : (code : ℕ) → 6 ≤ code → shortClauses code ≡ []
-past-code code h = ap shortClauses (code-is) ∙ past-six (code - 6)
+pub past-code : (code : ℕ) → 8 ≤ code → shortClauses code ≡ []
+past-code code h = ap shortClauses (code-is) ∙ past-eight (code - 8)
   where
-    code-is : code ≡ suc (suc (suc (suc (suc (suc (code - 6))))))
+    code-is : code ≡ suc (suc (suc (suc (suc (suc (suc (suc (code - 8))))))))
     code-is = omega arith
 
 fewClauses : ℕ → Bool
-fewClauses code = leb (length (shortClauses code)) 3
+fewClauses code = leb (length (shortClauses code)) 4
 
-pub past-clause : (code j : ℕ) → 3 ≤ j → getD (shortClauses code) j [] ≡ []
+pub past-clause : (code j : ℕ) → 4 ≤ j → getD (shortClauses code) j [] ≡ []
 unfolding shortClauses fewClauses
-past-clause code j l = go (decLt code 6)
+past-clause code j l = go (decLt code 8)
   where
-    go : Dec (code < 6) → getD (shortClauses code) j [] ≡ []
-    go (yes h) = List·getD-eq-default (shortClauses code) [] (omega (arith, leb→le (length (shortClauses code)) 3 (below 6 fewClauses tt code h)))
+    go : Dec (code < 8) → getD (shortClauses code) j [] ≡ []
+    go (yes h) = List·getD-eq-default (shortClauses code) [] (omega (arith, leb→le (length (shortClauses code)) 4 (below 8 fewClauses tt code h)))
     go (no f) = ap (λ c. getD c j []) (past-code code (omega arith))
 
 fewLiterals : ℕ → ℕ → Bool
 fewLiterals code j = leb (length (getD (shortClauses code) j [])) 3
 
-pub past-literal : (code j i : ℕ) → j < 3 → 3 ≤ i → getD (getD (shortClauses code) j []) i (Pos 0) ≡ Pos 0
+pub past-literal : (code j i : ℕ) → j < 4 → 3 ≤ i → getD (getD (shortClauses code) j []) i (Pos 0) ≡ Pos 0
 unfolding shortClauses fewLiterals
-past-literal code j i l g = go (decLt code 6)
+past-literal code j i l g = go (decLt code 8)
   where
-    go : Dec (code < 6) → getD (getD (shortClauses code) j []) i (Pos 0) ≡ Pos 0
+    go : Dec (code < 8) → getD (getD (shortClauses code) j []) i (Pos 0) ≡ Pos 0
     go (yes h) = List·getD-eq-default (getD (shortClauses code) j []) (Pos 0)
-        (omega (arith, leb→le (length (getD (shortClauses code) j [])) 3 (below2 6 3 fewLiterals tt code j h l)))
+        (omega (arith, leb→le (length (getD (shortClauses code) j [])) 3 (below2 8 4 fewLiterals tt code j h l)))
     go (no f) = ap (λ c. getD (getD c j []) i (Pos 0)) (past-code code (omega arith))
 
 -- ---- which of the two tables
@@ -84,17 +84,20 @@ codes-odd x (Neg m) t f = ap Neg (omega (arith, eqb→eq x (m * 2 + 1) t))
 abbrev pub rowTest : List ℕ → ℕ → ℕ → ℕ → Bool
 rowTest row code j i = codes (getD row (j * 3 + i) 0) (getD (getD (shortClauses code) j []) i (Pos 0))
 
-pub row-is : (row : List ℕ) (c : ℕ) → T (every (λ j. every (rowTest row c j) (range 0 3)) (range 0 3)) → (code j i : ℕ) → code ≡ c → j < 3 → i < 3
+pub row-is : (row : List ℕ) (c : ℕ) → T (every (λ j. every (rowTest row c j) (range 0 3)) (range 0 4)) → (code j i : ℕ) → code ≡ c → j < 4 → i < 3
     → T (codes (getD row (j * 3 + i) 0) (getD (getD (shortClauses code) j []) i (Pos 0)))
-row-is row c t code j i e h l = rw e (below2 3 3 (rowTest row c) t j i h l)
+row-is row c t code j i e h l = rw e (below2 4 3 (rowTest row c) t j i h l)
 
-pub no-row : (code j i : ℕ) → (code ≡ 1 → ⊥) → (code ≡ 2 → ⊥) → (code ≡ 3 → ⊥) → (code ≡ 4 → ⊥) → (code ≡ 5 → ⊥)
+pub no-row : (code j i : ℕ)
+    → (code ≡ 1 → ⊥) → (code ≡ 2 → ⊥) → (code ≡ 3 → ⊥) → (code ≡ 4 → ⊥) → (code ≡ 5 → ⊥) → (code ≡ 7 → ⊥)
     → T (codes 0 (getD (getD (shortClauses code) j []) i (Pos 0)))
 unfolding codes shortClauses
-no-row zero j i a b c d e = tt
-no-row (suc zero) j i a b c d e = absurd (a refl)
-no-row (suc (suc zero)) j i a b c d e = absurd (b refl)
-no-row (suc (suc (suc zero))) j i a b c d e = absurd (c refl)
-no-row (suc (suc (suc (suc zero)))) j i a b c d e = absurd (d refl)
-no-row (suc (suc (suc (suc (suc zero))))) j i a b c d e = absurd (e refl)
-no-row (suc (suc (suc (suc (suc (suc k)))))) j i a b c d e = tt
+no-row zero j i a b c d e f = tt
+no-row (suc zero) j i a b c d e f = absurd (a refl)
+no-row (suc (suc zero)) j i a b c d e f = absurd (b refl)
+no-row (suc (suc (suc zero))) j i a b c d e f = absurd (c refl)
+no-row (suc (suc (suc (suc zero)))) j i a b c d e f = absurd (d refl)
+no-row (suc (suc (suc (suc (suc zero))))) j i a b c d e f = absurd (e refl)
+no-row (suc (suc (suc (suc (suc (suc zero)))))) j i a b c d e f = tt
+no-row (suc (suc (suc (suc (suc (suc (suc zero))))))) j i a b c d e f = absurd (f refl)
+no-row (suc (suc (suc (suc (suc (suc (suc (suc k)))))))) j i a b c d e f = tt

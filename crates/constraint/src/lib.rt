@@ -9,22 +9,27 @@ ghost use Rattle.model.specs.Clauses.{shortClauses, unionClauses, memberClauses
 ghost use Rattle.constraint.specs.Coded.{codes};
 use model::Literal;
 
-// The clauses of each code below 6.
-const CLAUSES: [usize; 6] = [0, 2, 1, 3, 3, 3];
+// The clauses of each code but 6.
+const CLAUSES: [usize; 8] = [0, 2, 1, 3, 3, 3, 0, 4];
 
-// The literals of each, at most three to a code.
-const SIZES: [usize; 18] = [0, 0, 0, 2, 2, 0, 2, 0, 0, 3, 2, 2, 3, 2, 2, 3, 2, 2];
+// The literals of the first of them, and of each later one.
+const FIRST_SIZES: [usize; 8] = [0, 2, 2, 3, 3, 3, 0, 3];
 
-// These literals by code, three places to a clause: twice the member, and 1 more where it is negated.
-const EQUAL: [u32; 9] = [1, 2, 0, 0, 3, 0, 0, 0, 0];
+const LATER_SIZES: [usize; 8] = [0, 2, 0, 2, 2, 2, 0, 3];
 
-const WITHIN: [u32; 9] = [1, 2, 0, 0, 0, 0, 0, 0, 0];
+// The literals by code, three places to a clause: twice the member, and 1 more where it is negated.
+const EQUAL: [u32; 12] = [1, 2, 0, 0, 3, 0, 0, 0, 0, 0, 0, 0];
 
-const BOTH: [u32; 9] = [3, 5, 0, 2, 1, 0, 4, 1, 0];
+const WITHIN: [u32; 12] = [1, 2, 0, 0, 0, 0, 0, 0, 0, 0, 0, 0];
 
-const EITHER: [u32; 9] = [2, 4, 1, 3, 0, 0, 5, 0, 0];
+const BOTH: [u32; 12] = [3, 5, 0, 2, 1, 0, 4, 1, 0, 0, 0, 0];
 
-const LESS: [u32; 9] = [3, 4, 0, 2, 1, 0, 5, 1, 0];
+const EITHER: [u32; 12] = [2, 4, 1, 3, 0, 0, 5, 0, 0, 0, 0, 0];
+
+const LESS: [u32; 12] = [3, 4, 0, 2, 1, 0, 5, 1, 0, 0, 0, 0];
+
+// Its member 2 is no group but the variable X of the entrant.
+const DIFFERENT: [u32; 12] = [1, 3, 5, 0, 2, 5, 1, 2, 4, 0, 3, 4];
 
 // How many clauses a code has; k is the count of code 6.
 pub fn clause_count(code: u32, k: u32) -> usize
@@ -33,7 +38,7 @@ pub fn clause_count(code: u32, k: u32) -> usize
     if code == 6 {
         return k as usize + 1;
     }
-    if code < 6 {
+    if code < 8 {
         return CLAUSES[code as usize];
     }
     0
@@ -42,13 +47,17 @@ pub fn clause_count(code: u32, k: u32) -> usize
 fn short_size(code: u32, j: usize) -> usize
     ensures { λ r. ⌜ r ≡ length (getD (shortClauses code) j []) ⌝ }
 {
-    if 6 <= code {
+    if 8 <= code {
         return 0;
     }
-    if 3 <= j {
+    let i = code as usize;
+    if CLAUSES[i] <= j {
         return 0;
     }
-    SIZES[code as usize * 3 + j]
+    if j == 0 {
+        return FIRST_SIZES[i];
+    }
+    LATER_SIZES[i]
 }
 
 fn union_size(k: u32, j: usize) -> usize
@@ -74,7 +83,7 @@ pub fn literal_count(code: u32, k: u32, j: usize) -> usize
 }
 
 fn short_code(code: u32, j: usize, i: usize) -> u32
-    requires { ⌜ (j < 3) × (i < 3) ⌝ }
+    requires { ⌜ (j < 4) × (i < 3) ⌝ }
     ensures { λ r. ⌜ T (codes r (getD (getD (shortClauses code) j []) i (Pos 0))) ⌝ }
 {
     let at = j * 3 + i;
@@ -93,13 +102,16 @@ fn short_code(code: u32, j: usize, i: usize) -> u32
     if code == 5 {
         return LESS[at];
     }
+    if code == 7 {
+        return DIFFERENT[at];
+    }
     0
 }
 
 fn short_literal(code: u32, j: usize, i: usize) -> Literal
     ensures { λ r. ⌜ r ≡ getD (getD (shortClauses code) j []) i (Pos 0) ⌝ }
 {
-    if 3 <= j {
+    if 4 <= j {
         return Literal::Pos(0);
     }
     if 3 <= i {

@@ -21,7 +21,7 @@ fn member(ids: [u32; Model::MEMBERS], i: u32) -> u32
 }
 
 // The word of group g; none where there is no such group.
-fn set_of(words: [u64; Model::GROUPS], g: u32) -> u64
+pub fn set_of(words: [u64; Model::GROUPS], g: u32) -> u64
     ensures { λ r. ⌜ r ≡ setOf words g ⌝ }
 {
     if g < 1 {

@@ -1,28 +1,33 @@
 -- Laws of the clauses that an entrant keeps, and of a constraint's. Assumes nothing.
 use mathlib.Core.Path.{_≡_, refl, sym, ap, ap₂, _∙_}
 use mathlib.Core.Bool.{Bool, true, false, cond, not, _&&_}
-use mathlib.Core.List.{List, [], _∷_, map}
+use mathlib.Core.List.{List, [], _∷_, _++_, map}
 use Prim.Native.Nat.{ℕ, zero, suc, _+_, _≤_, _<_}
 use native.Mathlib.Nat.{zero-add}
 use native.Mathlib.Numerals.{add-one}
 use native.Mathlib.Omega.{arith}
 use lib.Dec.{T, eqb}
-use lib.ListN.{length, getD, take}
+use lib.ListN.{length, getD, take, length-append}
 use Rattle.model.specs.declared.Literal.{Literal}
 use Rattle.model.specs.declared.Literal.the-variants.{Pos, Neg}
 use Rattle.model.specs.declared.Term.{Term}
 use Rattle.model.specs.declared.Term.the-variants.{Holds, Fails, Open}
 use Rattle.model.specs.declared.Group.{Group}
 use Rattle.model.specs.declared.Constraint.{Constraint}
-use Rattle.model.specs.Lists.{every, any, range, total}
+use Rattle.model.specs.Lists.{every, any, each, range, total}
 use Rattle.model.specs.Limits.{limits}
-use Rattle.model.specs.Clauses.{memberClauses}
+use Rattle.model.specs.Clauses.{byEntrant, memberClauses}
 use Rattle.model.specs.Totalizer.{oppositeTerm, holds, keep}
 use Rattle.model.specs.Assignment.{variable}
-use Rattle.model.specs.Cnf.{firstVariable, clausesAt, constraintClauses}
-use Rattle.model.proofs.Lists.{any-map, any-none, every-range, places-all, total-const, range-last, total-append, length-each}
-use Rattle.terms.specs.Terms.{memberOf, absent, present, memberNumber, numberAt, isOpen, numberTerm, literalTerm, clauseOf, clauseTerms, MembersBelow}
-use Rattle.terms.proofs.Constraints.{clause-first, entrant-is}
+use Rattle.model.specs.Difference.{isApart}
+use Rattle.model.specs.Cnf.{differenceCount, clausesAt, constraintClauses}
+use Rattle.model.proofs.Lists.{All, any-map, any-none, every-range, places-all, total-const, range-last, total-append, length-each}
+use Rattle.encoding_laws.proofs.Fixpoint.{SettledAmong}
+use Rattle.encoding_laws.proofs.Groups.{constraint-count}
+use Rattle.encoding_laws.proofs.Differences.{six-last, apart-clauses, is-open, last-is}
+use Rattle.terms.specs.declared.Member.{Member}
+use Rattle.terms.specs.Terms.{absent, present, memberNumber, numberAt, isOpen, numberTerm, literalTerm, clauseOf, clauseTerms, MembersBelow}
+use Rattle.terms.proofs.Constraints.{Saying, clause-first, entrant-is}
 use Rattle.counts.specs.Counts.{keptCount, entrantCount, constraintCount}
 
 -- ---- counting the clauses that are kept
@@ -89,14 +94,35 @@ module _ (ns : List ℕ) (k code count : ℕ) (w : MembersBelow k code count) (t
       total-const (keptCount ns code count) 1 0 (length (memberClauses code count)) (λ j _ h. kept-one j (omega arith))
       ∙ omega arith
 
--- ---- how many clauses a constraint has
+-- ---- how many clauses a constraint has, but for a code 7 line's last
 
-module _ (t : List Group) (small : (g : ℕ) → firstVariable t g ≤ suc (limits .variables)) (c : Constraint) (k : ℕ) (wide : length (c .groups) ≡ limits .members)
-    (few : k ≤ limits .members) (w : MembersBelow k (c .code) (c .count)) where
-  pub constraint-length : (n : ℕ) → n ≤ limits .entrants
-      → length (constraintClauses n t c) ≡ constraintCount (map (memberOf t) (take k (c .groups))) (c .code) (c .count) n
-  unfolding constraintClauses constraintCount entrantCount keptCount
-  constraint-length n h =
-      length-each (clausesAt t c) (range 0 n)
-      ∙ total-range-ext (λ e. length (clausesAt t c e)) (λ e. entrantCount (map (memberNumber e) (map (memberOf t) (take k (c .groups)))) (c .code) (c .count)) 0 n
-      (λ e _ l. ap length (entrant-is t small c k wide few w e (omega arith)) ∙ length-each _ (range 0 (length (memberClauses (c .code) (c .count)))))
+module _ (x : ℕ) (t : List Group) (c : Constraint) (ms : List Member) (k : ℕ) (says : Saying x t c ms k) (clear : isApart t c ≡ false)
+    (w : MembersBelow k (c .code) (c .count)) where
+  pub entrants-length : (n : ℕ) → n ≤ limits .entrants → length (each (clausesAt x t c) (range 0 n)) ≡ constraintCount ms (c .code) (c .count) n
+  unfolding constraintCount entrantCount keptCount
+  entrants-length n h =
+      length-each (clausesAt x t c) (range 0 n)
+      ∙ total-range-ext (λ e. length (clausesAt x t c e)) (λ e. entrantCount (map (memberNumber e) ms) (c .code) (c .count)) 0 n
+      (λ e _ l. ap length (entrant-is x t c ms k says clear w e (omega arith)) ∙ length-each _ (range 0 (length (memberClauses (c .code) (c .count)))))
+
+module _ (t : List Group) (c : Constraint) where
+  pub six-length : T (byEntrant (c .code)) → (n k : ℕ) → length (each (clausesAt 0 t c) (range 0 n)) ≡ k → length (constraintClauses n t 0 c) ≡ k
+  unfolding constraintClauses
+  six-length six n k e =
+      ap (λ (l : List (List Literal)). length (each (clausesAt 0 t c) (range 0 n) ++ l)) (six-last t c six n 0)
+      ∙ length-append (each (clausesAt 0 t c) (range 0 n)) []
+      ∙ omega arith
+
+  -- code 7, by the X numbered from 1 on
+  module _ (seven : c .code ≡ 7) (n : ℕ) where
+    pub apart-length : isApart t c ≡ true → 0 ≡ length (constraintClauses n t 0 c)
+    apart-length e = sym (ap length (apart-clauses t c seven e n 0))
+
+    pub seven-length : All (SettledAmong n) t → isApart t c ≡ false → (k : ℕ) → length (each (clausesAt 1 t c) (range 0 n)) ≡ k
+        → k + 1 ≡ length (constraintClauses n t 0 c)
+    unfolding constraintClauses
+    seven-length s clear k e =
+        sym (constraint-count t c 0 1 n
+        ∙ ap (λ (l : List (List Literal)). length (each (clausesAt 1 t c) (range 0 n) ++ l)) (last-is n 1 t s c (is-open t c seven clear))
+        ∙ length-append (each (clausesAt 1 t c) (range 0 n)) (map Pos (range 1 (differenceCount t c)) ∷ [])
+        ∙ omega arith)

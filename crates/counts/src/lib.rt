@@ -182,6 +182,28 @@ fn constraint_count(ms: [Member; Model::MEMBERS], k: usize, code: u32, count: u3
     r
 }
 
+// Of a code 7 constraint: none where an entrant differs already, and else the last one too. Their number is the same wherever the X are numbered from.
+fn difference_length(
+    groups: [Group; Model::GROUPS],
+    s: usize,
+    first: [u32; Model::GROUPS],
+    c: Constraint,
+    n: u32,
+) -> u32
+    requires { ⌜ (s ≤ limits .groups) × (n ≤ limits .entrants) ⌝ }
+    requires { ⌜ All (SettledAmong n) (take s groups) × (first ≡ firstVariables (take s groups)) ⌝ }
+    requires { ⌜ T (constraintInRange s c) × (c .code ≡ 7) ⌝ }
+    ensures { λ r. ⌜ (r ≡ length (constraintClauses n (take s groups) 0 c)) × (r ≤ limits .entrants * limits .members + 1) ⌝ }
+{
+    if difference::is_apart(groups, s, c) {
+        return 0;
+    }
+    let ids = c.groups;
+    let o = difference::differing(groups, s, c);
+    let ms = terms::difference_members(groups, first, ids, o, 1);
+    constraint_count(ms, 3, c.code, c.count, n) + 1
+}
+
 // Of constraint c among the first s groups.
 fn constraint_length(
     groups: [Group; Model::GROUPS],
@@ -191,10 +213,13 @@ fn constraint_length(
     n: u32,
 ) -> u32
     requires { ⌜ (s ≤ limits .groups) × (n ≤ limits .entrants) ⌝ }
-    requires { ⌜ All (SettledAmong (limits .entrants)) (take s groups) × (first ≡ firstVariables (take s groups)) ⌝ }
+    requires { ⌜ All (SettledAmong n) (take s groups) × (first ≡ firstVariables (take s groups)) ⌝ }
     requires { ⌜ T (constraintInRange s c) ⌝ }
-    ensures { λ r. ⌜ (r ≡ length (constraintClauses n (take s groups) c)) × (r ≤ limits .entrants * limits .members) ⌝ }
+    ensures { λ r. ⌜ (r ≡ length (constraintClauses n (take s groups) 0 c)) × (r ≤ limits .entrants * limits .members + 1) ⌝ }
 {
+    if c.code == 7 {
+        return difference_length(groups, s, first, c, n);
+    }
     let k = range::member_count(c.code, c.count);
     let ids = c.groups;
     let ms = terms::members(groups, first, ids, k);
@@ -211,9 +236,9 @@ fn sum_constraints(
     n: u32,
 ) -> u32
     requires { ⌜ (s ≤ limits .groups) × (n ≤ limits .entrants) × (c ≤ limits .constraints) ⌝ }
-    requires { ⌜ All (SettledAmong (limits .entrants)) (take s groups) × (first ≡ firstVariables (take s groups)) ⌝ }
+    requires { ⌜ All (SettledAmong n) (take s groups) × (first ≡ firstVariables (take s groups)) ⌝ }
     requires { ⌜ T (every (constraintInRange s) (take c constraints)) ⌝ }
-    ensures { λ r. ⌜ (r ≡ total (λ x. length (constraintClauses n (take s groups) x)) (take c constraints)) × (r ≤ c * (limits .entrants * limits .members)) ⌝ }
+    ensures { λ r. ⌜ (r ≡ total (λ x. length (constraintClauses n (take s groups) 0 x)) (take c constraints)) × (r ≤ c * (limits .entrants * limits .members + 1)) ⌝ }
 {
     let mut r = 0;
     let mut j: usize = 0;

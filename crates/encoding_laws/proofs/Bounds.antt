@@ -1,4 +1,4 @@
--- "32,768 bytes hold each block; V is at most 49,152": each bound first as a formula of n, s, c and the tree's own T and A, the numbers of the paper last.
+-- "32,768 bytes hold each block", "V at most 57,344": each bound first as a formula of n, s, c and the tree's own T and A, the numbers of the paper last.
 -- Assumes nothing.
 use mathlib.Core.Path.{_≡_, refl, sym, ap, ap₂, _∙_, subst}
 use mathlib.Core.Bool.{Bool, true, false, cond}
@@ -19,22 +19,24 @@ use Rattle.model.specs.declared.Constraint.{Constraint}
 use Rattle.model.specs.declared.Model.{Model}
 use Rattle.model.specs.Lists.{any, each, total, range}
 use Rattle.model.specs.Limits.{limits}
-use Rattle.model.specs.Clauses.{shortClauses, unionClauses, memberClauses, ofGroup, clausesOf}
+use Rattle.model.specs.Clauses.{shortClauses, unionClauses, memberClauses}
 use Rattle.model.specs.Model.{zeroGroup, zeroConstraint, groupAt, tableOf, constraintsOf, constraintInRange}
+use Rattle.model.specs.Difference.{isApart}
 use Rattle.model.specs.Propagate.{Settled}
 use Rattle.model.specs.Totalizer.{holds, literals, keep, formed, nodeTerms, putIn, dropped, rowClauses, nodeClauses, Shape, shape, rootOutput, nodes, treeClauses, unit, unitClauses, totalizerClauses, clauseCountIn, treeClauseCount, outputCountIn, treeOutputCount}
-use Rattle.model.specs.Cnf.{openOf, openCount, atLeast, atMost, counted, outputsOf, firstVariable, firstOutput, tableVariables, variableCount, groupClauses, termOf, clausesAt, constraintClauses, blockClauses, groupClauseCount, clauseCount}
+use Rattle.model.specs.Cnf.{openOf, openCount, atLeast, atMost, counted, outputsOf, firstVariable, firstOutput, tableVariables, isOpenDifference, differenceCount, firstDifference, variableCount, groupClauses, difference, constraintTerm, termOf, clausesAt, lastClause, constraintClauses, blockClauses, groupClauseCount, clauseCount}
 use Rattle.model.specs.Text.{decimal, literalText, clauseText, headerText, blockText}
 use Rattle.model.specs.Assignment.{variable}
 use Rattle.model.proofs.Words.{size-le}
-use Rattle.model.proofs.Lists.{length-each, each-each, total-ext, total-map, total-const, total-le, total-mono, each-all, All, all-both, all-imp, all-map-iff, all-of, all-each, all-place, all-getD, all-zip, every-all, range-length}
+use Rattle.model.proofs.Lists.{length-each, each-append, each-each, total-map, total-const, total-le, total-mono, each-all, All, all-both, all-imp, all-map-iff, all-of, all-each, all-place, all-getD, all-zip, every-all, range-length}
 use Rattle.encoding_laws.proofs.Counts.{clause-count-step, output-count-step, group-length}
-use Rattle.encoding_laws.proofs.Groups.{table-length, constraints-length, group-block, constraint-block}
-use Rattle.model.proofs.Codes.{by-code, by-entrant, count-in}
+use Rattle.encoding_laws.proofs.Groups.{table-length, constraints-length, constraint-count, group-block, constraint-block}
+use Rattle.model.proofs.Codes.{by-code, by-seven, is-code, count-in}
 use Rattle.propagation_laws.proofs.Ranges.{in-range, constraint-code}
 use Rattle.encoding_laws.proofs.Fixpoint.{SettledAmong, table-settled}
+use Rattle.encoding_laws.proofs.Differences.{count-le}
 use Rattle.encoding_laws.proofs.Whole.{limits-of, open-lt}
-use Rattle.encoding_laws.proofs.Ranges.{In, VariablesIn, group-variables, constraint-variables}
+use Rattle.encoding_laws.proofs.Ranges.{In, VariablesIn, constraint-in, group-variables, constraint-variables}
 use Rattle.encoding_laws.proofs.Decimal.{decimal-bound}
 
 -- ---- A and T grow with the size of the tree
@@ -122,8 +124,8 @@ module _ (n : ℕ) (r : Group) (s : SettledAmong n r) where
           omega (arith, clauses-mono (openCount r) n open-few, open-few, l .low-high, l .high-open)
       go false = omega arith
 
--- V is at most s·(n + A(n))
-pub variables-formula : (m : Model) → Settled m → variableCount m ≤ m .s * (m .n + treeOutputCount (m .n))
+-- V is at most s·(n + A(n)) + c·n
+pub variables-formula : (m : Model) → Settled m → variableCount m ≤ m .s * (m .n + treeOutputCount (m .n)) + m .c * m .n
 unfolding variableCount tableVariables
 variables-formula m q =
     let t = tableOf m in
@@ -132,7 +134,9 @@ variables-formula m q =
     let x = total-le openCount n t (all-imp (SettledAmong n) (λ g. openCount g ≤ n) (open-few n) t (table-settled m q)) in
     let y = total-le outputsOf a t (all-imp (SettledAmong n) (λ g. outputsOf g ≤ a) (outputs-few n) t (table-settled m q)) in
     let e : length t * n + length t * a ≡ m .s * (n + a) = sym (mul-add (length t) n a) ∙ ap (λ (k : ℕ). k * (n + a)) (table-length m (q .sized)) in
-    omega (arith, x, y, e)
+    let z = total-le (differenceCount t) n (constraintsOf m) (all-of (λ c. differenceCount t c ≤ n) (count-le n t (table-settled m q)) (constraintsOf m)) in
+    let f : length (constraintsOf m) * n ≡ m .c * n = ap (λ (k : ℕ). k * n) (constraints-length m (q .sized)) in
+    omega (arith, x, y, e, z, f)
 
 -- ---- the numbers, at the largest n, s and c
 
@@ -153,28 +157,33 @@ few-digits : limits .variables < 10 ^ digitCount
 few-digits = omega arith
 
 module _ (n : ℕ) (few : n ≤ limits .entrants) where
-  most-variables : (s : ℕ) → s ≤ limits .groups → s * (n + treeOutputCount n) ≤ limits .variables
-  most-variables s h =
-      le-trans (mul-le-mul {n₂ = limits .groups} {m₂ = limits .entrants + treeOutputCount (limits .entrants)} h (omega (arith, outputs-mono n (limits .entrants) few)))
-      (unfold treeOutputCount outputCountIn in omega arith)
+  most-variables : (s c : ℕ) → s ≤ limits .groups → c ≤ limits .constraints → s * (n + treeOutputCount n) + c * n ≤ limits .variables
+  most-variables s c h k =
+      let a : s * (n + treeOutputCount n) ≤ limits .groups * (limits .entrants + treeOutputCount (limits .entrants)) =
+      mul-le-mul h (omega (arith, outputs-mono n (limits .entrants) few)) in
+      let b : c * n ≤ limits .constraints * limits .entrants = mul-le-mul k few in
+      omega (arith, a, b, most)
+    where
+      most : limits .groups * (limits .entrants + treeOutputCount (limits .entrants)) + limits .constraints * limits .entrants ≤ limits .variables
+      most = unfold treeOutputCount outputCountIn in omega arith
 
   most-group-bytes : (treeClauseCount n + n) * clauseBytes 3 ≤ limits .block
   most-group-bytes =
       le-trans (mul-le-mul {n₂ = treeClauseCount (limits .entrants) + limits .entrants} {m₂ = clauseBytes 3} (omega (arith, clauses-mono n (limits .entrants) few)) (le-refl (clauseBytes 3)))
       (unfold treeClauseCount clauseCountIn in omega arith)
 
-  most-constraint-bytes : n * entrantBytes ≤ limits .block
+  most-constraint-bytes : n * entrantBytes + clauseBytes n ≤ limits .block
   most-constraint-bytes = omega arith
 
   -- a block has no more clauses than bytes
   pub group-clauses-bound : (r : Group) → SettledAmong n r → groupClauseCount r ≤ limits .block
   group-clauses-bound r s = let x = clause-count-few n r s in omega (arith, most-group-bytes)
 
--- "V is at most 49,152"
+-- "V at most 57,344"
 pub variables-bound : (m : Model) → Settled m → variableCount m ≤ limits .variables
 variables-bound m q =
     let r = in-range m (q .in-range) in
-    le-trans (variables-formula m q) (most-variables (m .n) (r .entrants) (m .s) (r .groupCount))
+    le-trans (variables-formula m q) (most-variables (m .n) (r .entrants) (m .s) (m .c) (r .groupCount) (r .constraintCount))
 
 -- ---- text, of clauses whose variables are short
 
@@ -276,20 +285,14 @@ bytesOf ls = clauseBytes (length ls)
 
 -- no more bytes for an entrant than the longest code has
 Modest : Constraint → Type 0
-Modest c = total bytesOf (clausesOf c) ≤ entrantBytes
-
-total-members : (c : Constraint) → total bytesOf (clausesOf c) ≡ total bytesOf (memberClauses (c .code) (c .count))
-unfolding clausesOf
-total-members c =
-    total-map bytesOf (map (ofGroup (c .groups))) (memberClauses (c .code) (c .count))
-    ∙ total-ext (λ ls. bytesOf (map (ofGroup (c .groups)) ls)) bytesOf (λ ls. ap clauseBytes (length-map ls (ofGroup (c .groups)))) (memberClauses (c .code) (c .count))
+Modest c = total bytesOf (memberClauses (c .code) (c .count)) ≤ entrantBytes
 
 modest : (s : ℕ) (c : Constraint) → T (constraintInRange s c) → Modest c
 unfolding memberClauses shortClauses unionClauses Modest
 modest s c t =
-    rw (total-members c)
-    (by-code (λ code. (code ≡ 6 → c .count ≤ limits .members - 1) → total bytesOf (memberClauses code (c .count)) ≤ entrantBytes)
-    (λ h. omega arith) (λ h. omega arith) (λ h. omega arith) (λ h. omega arith) (λ h. omega arith)
+    let P : ℕ → Type 0 = λ code. (code ≡ 6 → c .count ≤ limits .members - 1) → total bytesOf (memberClauses code (c .count)) ≤ entrantBytes in
+    by-seven P
+    (by-code P (λ h. omega arith) (λ h. omega arith) (λ h. omega arith) (λ h. omega arith) (λ h. omega arith)
     (λ h. let k = h refl in
     omega (
       arith,
@@ -298,8 +301,9 @@ modest s c t =
       range-length 1 (c .count),
       total-map bytesOf (λ i. Neg i ∷ Pos 0 ∷ []) (range 1 (c .count)),
       total-const (λ i. bytesOf (Neg i ∷ Pos 0 ∷ [])) (clauseBytes 2) 1 (c .count) (λ j l u. refl),
-    ))
-    (c .code) (by-entrant (c .code) (c .count) (constraint-code s c t)) (count-in (c .code) (c .count) (constraint-code s c t)))
+    )))
+    (λ h. omega arith)
+    (c .code) (is-code (c .code) (c .count) (constraint-code s c t)) (count-in (c .code) (c .count) (constraint-code s c t))
 
 kept-bytes : (ts : List Term) → All (All Short) (keep ts) → length (each clauseText (keep ts)) ≤ clauseBytes (length ts)
 unfolding keep
@@ -309,28 +313,58 @@ kept-bytes ts h = go (any holds ts) h
     go true h = omega arith
     go false h = omega (arith, clause-bytes (literals ts) (h .0), length-append (clauseText (literals ts)) [], literals-length ts)
 
-entrant-bytes : (t : List Group) (c : Constraint) (e : ℕ) → Modest c → All (All Short) (clausesAt t c e) → length (each clauseText (clausesAt t c e)) ≤ entrantBytes
-unfolding clausesAt Modest
-entrant-bytes t c e k h =
-    let f : List Literal → List (List Literal) = λ ls. keep (map (termOf t e) ls) in
-    let x = ap length (each-each clauseText f (clausesOf c)) ∙ length-each (λ ls. each clauseText (f ls)) (clausesOf c) in
-    let y =
-    total-mono (λ ls. length (each clauseText (f ls))) bytesOf (clausesOf c)
-    (all-imp (λ ls. All (All Short) (f ls)) (λ ls. length (each clauseText (f ls)) ≤ bytesOf ls)
-    (λ ls q. let w = kept-bytes (map (termOf t e) ls) q in omega (arith, length-map ls (termOf t e))) (clausesOf c)
-    (each-all (All Short) f (clausesOf c) h)) in
-    omega (arith, x, y)
+module _ (t : List Group) (x : ℕ) (c : Constraint) where
+  entrant-bytes : (e : ℕ) → Modest c → All (All Short) (clausesAt x t c e) → length (each clauseText (clausesAt x t c e)) ≤ entrantBytes
+  unfolding clausesAt Modest
+  entrant-bytes e k h = go (isApart t c) h
+    where
+      cs : List (List Literal)
+      cs = memberClauses (c .code) (c .count)
 
-constraint-bytes : (n : ℕ) (t : List Group) (c : Constraint) → Modest c → All (All Short) (constraintClauses n t c)
-    → length (each clauseText (constraintClauses n t c)) ≤ n * entrantBytes
-unfolding constraintClauses
-constraint-bytes n t c k h =
-    let x = ap length (each-each clauseText (clausesAt t c) (range 0 n)) ∙ length-each (λ e. each clauseText (clausesAt t c e)) (range 0 n) in
-    let y =
-    total-le (λ e. length (each clauseText (clausesAt t c e))) entrantBytes (range 0 n)
-    (all-imp (λ e. All (All Short) (clausesAt t c e)) (λ e. length (each clauseText (clausesAt t c e)) ≤ entrantBytes) (λ e q. entrant-bytes t c e k q) (range 0 n)
-    (each-all (All Short) (clausesAt t c) (range 0 n) h)) in
-    omega (arith, x, y, range-length 0 n)
+      f : List Literal → List (List Literal)
+      f ls = keep (map (termOf (constraintTerm x t c e)) ls)
+
+      go : (b : Bool) → All (All Short) (cond b [] (each f cs)) → length (each clauseText (cond b [] (each f cs))) ≤ entrantBytes
+      go true h = omega arith
+      go false h =
+          let p = ap length (each-each clauseText f cs) ∙ length-each (λ ls. each clauseText (f ls)) cs in
+          let q =
+          total-mono (λ ls. length (each clauseText (f ls))) bytesOf cs
+          (all-imp (λ ls. All (All Short) (f ls)) (λ ls. length (each clauseText (f ls)) ≤ bytesOf ls)
+          (λ ls q. let w = kept-bytes (map (termOf (constraintTerm x t c e)) ls) q in omega (arith, length-map ls (termOf (constraintTerm x t c e)))) cs
+          (each-all (All Short) f cs h)) in
+          omega (arith, p, q)
+
+  -- the last clause has a literal for each entrant at most
+  last-bytes : (n : ℕ) → All (All Short) (lastClause n x t c) → length (each clauseText (lastClause n x t c)) ≤ clauseBytes n
+  unfolding lastClause
+  last-bytes n h = go (isOpenDifference t c) h
+    where
+      go : (b : Bool) → All (All Short) (cond b (keep (map (difference x t c) (range 0 n))) [])
+          → length (each clauseText (cond b (keep (map (difference x t c) (range 0 n))) [])) ≤ clauseBytes n
+      go true h = omega (arith, kept-bytes (map (difference x t c) (range 0 n)) h, length-map (range 0 n) (difference x t c), range-length 0 n)
+      go false h = omega arith
+
+  constraint-bytes : (n : ℕ) → Modest c → All (All Short) (constraintClauses n t x c)
+      → length (each clauseText (constraintClauses n t x c)) ≤ n * entrantBytes + clauseBytes n
+  unfolding constraintClauses
+  constraint-bytes n k h =
+      let es = each (clausesAt x t c) (range 0 n) in
+      let parts = all-both (All Short) es (lastClause n x t c) .0 h in
+      let p = ap length (each-each clauseText (clausesAt x t c) (range 0 n)) ∙ length-each (λ e. each clauseText (clausesAt x t c e)) (range 0 n) in
+      let q =
+      total-le (λ e. length (each clauseText (clausesAt x t c e))) entrantBytes (range 0 n)
+      (all-imp (λ e. All (All Short) (clausesAt x t c e)) (λ e. length (each clauseText (clausesAt x t c e)) ≤ entrantBytes) (λ e q. entrant-bytes e k q) (range 0 n)
+      (each-all (All Short) (clausesAt x t c) (range 0 n) (parts .0))) in
+      let w = last-bytes n (parts .1) in
+      omega (
+        arith,
+        p,
+        q,
+        range-length 0 n,
+        ap length (each-append clauseText es (lastClause n x t c)),
+        length-append (each clauseText es) (each clauseText (lastClause n x t c)),
+      )
 
 -- every clause has bytes
 clauses-few : (cs : List (List Literal)) → length cs ≤ length (each clauseText cs)
@@ -359,19 +393,38 @@ module _ (m : Model) (q : Settled m) where
       let y = clause-count-few (m .n) (groupAt (tableOf m) g) s in
       omega (arith, x, y, group-length (tableOf m) g, most-group-bytes (m .n) few)
 
-  constraint-block-bytes : (c : Constraint) → Modest c → length (each clauseText (constraintClauses (m .n) (tableOf m) c)) ≤ limits .block
-  constraint-block-bytes c k =
-      le-trans (constraint-bytes (m .n) (tableOf m) c k (shorts (constraintClauses (m .n) (tableOf m) c) (constraint-variables m q c)))
-      (most-constraint-bytes (m .n) few)
-
   all-modest : All Modest (constraintsOf m)
   all-modest =
       all-imp (λ c. T (constraintInRange (m .s) c)) Modest (modest (m .s)) (constraintsOf m)
       (every-all (constraintInRange (m .s)) (constraintsOf m) (in-range m (q .in-range) .constraints))
 
   zero-modest : Modest zeroConstraint
-  unfolding zeroConstraint clausesOf memberClauses shortClauses Modest
+  unfolding zeroConstraint memberClauses shortClauses Modest
   zero-modest = omega arith
+
+  -- of constraint j
+  constraint-block-bytes : (j : ℕ)
+      → length (each clauseText (constraintClauses (m .n) (tableOf m) (firstDifference (1 + tableVariables (tableOf m)) m j) (getD (constraintsOf m) (j - 1) zeroConstraint)))
+      ≤ limits .block
+  constraint-block-bytes j =
+      let x = firstDifference (1 + tableVariables (tableOf m)) m j in
+      let c = getD (constraintsOf m) (j - 1) zeroConstraint in
+      le-trans (constraint-bytes (tableOf m) x c (m .n) (all-getD Modest zeroConstraint zero-modest (constraintsOf m) all-modest (j - 1))
+      (shorts (constraintClauses (m .n) (tableOf m) x c) (constraint-variables m q j)))
+      (most-constraint-bytes (m .n) few)
+
+  -- the number of a constraint's clauses, wherever its X are numbered from
+  constraint-clauses-bound : (c : Constraint) → Modest c → length (constraintClauses (m .n) (tableOf m) 0 c) ≤ limits .block
+  constraint-clauses-bound c k =
+      let t = tableOf m in
+      let s = table-settled m q in
+      let hi : ℕ = suc (tableVariables t) + differenceCount t c in
+      let cs = constraintClauses (m .n) t 1 c in
+      let i = constraint-in (m .n) t s hi (omega arith) 1 c (omega arith) (omega arith) (m .n) in
+      let below : tableVariables t ≤ variableCount m = unfold variableCount in omega arith in
+      let top : hi ≤ 10 ^ digitCount = omega (arith, variables-bound m q, count-le (m .n) t s c, few, below) in
+      let h : All (All Short) cs = all-imp (All (In 1 hi)) (All Short) (λ c k. all-imp (In 1 hi) Short (λ l p. let u = p .1 in omega arith) c k) cs i in
+      omega (arith, constraint-count t c 0 1 (m .n), clauses-few cs, constraint-bytes t 1 c (m .n) k h, most-constraint-bytes (m .n) few)
 
   -- C: no block has more clauses than bytes
   count-bound : clauseCount m ≤ (m .s + m .c) * limits .block
@@ -382,9 +435,8 @@ module _ (m : Model) (q : Settled m) where
       total-le groupClauseCount (limits .block) t
       (all-imp (SettledAmong (m .n)) (λ g. groupClauseCount g ≤ limits .block) (group-clauses-bound (m .n) few) t (table-settled m q)) in
       let y =
-      total-le (λ c. length (constraintClauses (m .n) t c)) (limits .block) (constraintsOf m)
-      (all-imp Modest (λ c. length (constraintClauses (m .n) t c) ≤ limits .block)
-      (λ c k. le-trans (clauses-few (constraintClauses (m .n) t c)) (constraint-block-bytes c k)) (constraintsOf m) all-modest) in
+      total-le (λ c. length (constraintClauses (m .n) t 0 c)) (limits .block) (constraintsOf m)
+      (all-imp Modest (λ c. length (constraintClauses (m .n) t 0 c) ≤ limits .block) constraint-clauses-bound (constraintsOf m) all-modest) in
       omega (arith, x, y, table-length m (q .sized), constraints-length m (q .sized))
 
   header-bytes : length (headerText m) ≤ limits .block
@@ -413,6 +465,4 @@ module _ (m : Model) (q : Settled m) where
       go : Dec (suc b ≤ m .s) → length (each clauseText (blockClauses m (suc b))) ≤ limits .block
       go (yes h) = rw (group-block m (q .sized) (suc b) h) (group-bytes (suc b) (omega arith) h)
       go (no h) =
-          rw (constraint-block m (q .sized) (suc b) (omega arith))
-          (constraint-block-bytes (getD (constraintsOf m) (suc b - m .s - 1) zeroConstraint)
-          (all-getD Modest zeroConstraint zero-modest (constraintsOf m) all-modest (suc b - m .s - 1)))
+          rw (constraint-block m (q .sized) (suc b) (omega arith)) (constraint-block-bytes (suc b - m .s))

@@ -1,20 +1,135 @@
 -- The clauses of the listing as those of the groups and those of the constraints, and the groups' numbering from one to the next. Assumes nothing.
 use mathlib.Core.Path.{_≡_, refl, sym, ap, ap₂, _∙_}
+use mathlib.Core.Bool.{Bool, true, false, cond, _&&_}
 use mathlib.Core.List.{List, [], _∷_, _++_, map}
-use Prim.Native.Nat.{ℕ, _+_, _-_, _≤_, _<_}
+use Prim.Native.Nat.{ℕ, suc, _+_, _-_, _%_, _^_, _≤_, _<_}
 use native.Mathlib.Nat.{add-zero, zero-add, suc-add, add-assoc}
 use native.Mathlib.Omega.{arith}
 use borrow.Author.Tests.{le-leb, lt-leb}
+use lib.Dec.{eqb}
 use lib.ListN.{length, getD, take, length-append, length-take}
 use Rattle.model.specs.declared.Literal.{Literal}
+use Rattle.model.specs.declared.Literal.the-variants.{Pos, Neg}
+use Rattle.model.specs.declared.Term.{Term}
+use Rattle.model.specs.declared.Term.the-variants.{Open, Fails}
 use Rattle.model.specs.declared.Group.{Group}
 use Rattle.model.specs.declared.Constraint.{Constraint}
 use Rattle.model.specs.declared.Model.{Model}
-use Rattle.model.specs.Lists.{each, total, range}
+use Rattle.model.specs.Lists.{any, each, total, range}
+use Rattle.model.specs.Words.{size, has}
+use Rattle.model.specs.Clauses.{memberClauses, isDifference}
 use Rattle.model.specs.Model.{zeroGroup, zeroConstraint, groupAt, tableOf, constraintsOf, Sized}
-use Rattle.model.specs.Cnf.{openCount, outputsOf, firstVariable, firstOutput, groupClauses, constraintClauses, blockClauses, blockCount, clauses, groupClauseCount, clauseCount}
-use Rattle.model.proofs.Lists.{each-append, each-map, each-range-ext, range-append, length-each, total-ext, total-map, values-make, places}
+use Rattle.model.specs.Difference.{isApart}
+use Rattle.model.specs.Totalizer.{oppositeTerm, holds, literals, keep}
+use Rattle.model.specs.Cnf.{openCount, outputsOf, firstVariable, firstOutput, isOpenDifference, differing, differenceCount, firstDifference, tableVariables, groupClauses, membership, difference, constraintTerm, termOf, clausesAt, lastClause, constraintClauses, blockClauses, blockCount, clauses, groupClauseCount, clauseCount}
+use Rattle.model.proofs.Lists.{any-map, any-ext, each-append, each-range-ext, range-append, length-each, total-ext, total-map, values-make, places}
 use Rattle.encoding_laws.proofs.Counts.{group-length}
+
+-- ---- from constraint to constraint
+
+-- what F makes of each constraint and its first X, in one list
+abbrev pub overConstraints : {B : Type 0} → List Group → (ℕ → Constraint → List B) → List Constraint → ℕ → List B
+overConstraints t F [] x = []
+overConstraints t F (c ∷ cs) x = F x c ++ overConstraints t F cs (x + differenceCount t c)
+
+constraints-numbered : {B : Type 0} (t : List Group) (F : ℕ → Constraint → List B) (cs : List Constraint) (x k : ℕ)
+    → each (λ b. F (x + total (differenceCount t) (take (b - k) cs)) (getD cs (b - k) zeroConstraint)) (range k (length cs)) ≡ overConstraints t F cs x
+constraints-numbered t F [] x k = refl
+constraints-numbered {B} t F (c ∷ cs) x k =
+    let first : at (c ∷ cs) x k k ≡ F x c = let z : k - k ≡ 0 = omega arith in rw (z, add-zero x) in
+    ap₂ (λ (p q : List B). p ++ q) first
+    (each-range-ext (at (c ∷ cs) x k) (at cs (x + differenceCount t c) (suc k)) (suc k) (length cs)
+    (λ b l h. let e : b - k ≡ suc (b - suc k) = omega arith in
+    rw (e, add-assoc x (differenceCount t c) (total (differenceCount t) (take (b - suc k) cs))))
+    ∙ constraints-numbered t F cs (x + differenceCount t c) (suc k))
+  where
+    at : List Constraint → ℕ → ℕ → ℕ → List B
+    at cs x k b = F (x + total (differenceCount t) (take (b - k) cs)) (getD cs (b - k) zeroConstraint)
+
+-- the number of clauses does not depend on the numbering
+keep-count : {A : Type 0} (f g : A → Term) → ((a : A) → holds (f a) ≡ holds (g a)) → (l : List A) → length (keep (map f l)) ≡ length (keep (map g l))
+unfolding keep
+keep-count f g h l = rw (any-map holds f l, any-map holds g l, any-ext (λ a. holds (f a)) (λ a. holds (g a)) h l) (go (any (λ a. holds (g a)) l))
+  where
+    go : (b : Bool) → length (cond b [] (literals (map f l) ∷ [])) ≡ length (cond b [] (literals (map g l) ∷ []))
+    go true = refl
+    go false = refl
+
+-- known alike, and their opposites too
+abbrev Alike : Term → Term → Type 0
+Alike p q = (holds p ≡ holds q) × (holds (oppositeTerm p) ≡ holds (oppositeTerm q))
+
+module _ (t : List Group) (c : Constraint) (x y : ℕ) where
+  difference-alike : (e : ℕ) → Alike (difference x t c e) (difference y t c e)
+  unfolding difference
+  difference-alike e = go (has (differing t c) e)
+    where
+      k : ℕ
+      k = size (differing t c % 2 ^ e)
+
+      go : (b : Bool) → Alike (cond b (Open (Pos (x + k))) Fails) (cond b (Open (Pos (y + k))) Fails)
+      go true = (refl, refl)
+      go false = (refl, refl)
+
+  member-alike : (e i : ℕ) → Alike (constraintTerm x t c e i) (constraintTerm y t c e i)
+  unfolding constraintTerm
+  member-alike e i = go (isDifference c && eqb i 2)
+    where
+      g : Term
+      g = membership t e (getD (c .groups) i 0)
+
+      go : (b : Bool) → Alike (cond b (difference x t c e) g) (cond b (difference y t c e) g)
+      go true = difference-alike e
+      go false = (refl, refl)
+
+  term-known : (e : ℕ) (l : Literal) → holds (termOf (constraintTerm x t c e) l) ≡ holds (termOf (constraintTerm y t c e) l)
+  term-known e (Pos i) = member-alike e i .0
+  term-known e (Neg i) = member-alike e i .1
+
+  entrant-count : (e : ℕ) → length (clausesAt x t c e) ≡ length (clausesAt y t c e)
+  unfolding clausesAt
+  entrant-count e = go (isApart t c)
+    where
+      cs : List (List Literal)
+      cs = memberClauses (c .code) (c .count)
+
+      kept : ℕ → List Literal → List (List Literal)
+      kept z ls = keep (map (termOf (constraintTerm z t c e)) ls)
+
+      go : (b : Bool) → length (cond b [] (each (kept x) cs)) ≡ length (cond b [] (each (kept y) cs))
+      go true = refl
+      go false =
+          length-each (kept x) cs
+          ∙ total-ext (λ ls. length (kept x ls)) (λ ls. length (kept y ls)) (keep-count (termOf (constraintTerm x t c e)) (termOf (constraintTerm y t c e)) (term-known e)) cs
+          ∙ sym (length-each (kept y) cs)
+
+  last-count : (n : ℕ) → length (lastClause n x t c) ≡ length (lastClause n y t c)
+  unfolding lastClause
+  last-count n = go (isOpenDifference t c)
+    where
+      go : (b : Bool) → length (cond b (keep (map (difference x t c) (range 0 n))) []) ≡ length (cond b (keep (map (difference y t c) (range 0 n))) [])
+      go true = keep-count (difference x t c) (difference y t c) (λ e. difference-alike e .0) (range 0 n)
+      go false = refl
+
+  pub constraint-count : (n : ℕ) → length (constraintClauses n t x c) ≡ length (constraintClauses n t y c)
+  unfolding constraintClauses
+  constraint-count n =
+      length-append (each (clausesAt x t c) (range 0 n)) (lastClause n x t c)
+      ∙ ap₂ (λ (p q : ℕ). p + q)
+      (length-each (clausesAt x t c) (range 0 n)
+      ∙ total-ext (λ e. length (clausesAt x t c e)) (λ e. length (clausesAt y t c e)) entrant-count (range 0 n)
+      ∙ sym (length-each (clausesAt y t c) (range 0 n)))
+      (last-count n)
+      ∙ sym (length-append (each (clausesAt y t c) (range 0 n)) (lastClause n y t c))
+
+constraints-counted : (n : ℕ) (t : List Group) (cs : List Constraint) (x : ℕ)
+    → length (overConstraints t (constraintClauses n t) cs x) ≡ total (λ c. length (constraintClauses n t 0 c)) cs
+constraints-counted n t [] x = refl
+constraints-counted n t (c ∷ cs) x =
+    length-append (constraintClauses n t x c) (overConstraints t (constraintClauses n t) cs (x + differenceCount t c))
+    ∙ ap₂ (λ (p q : ℕ). p + q) (constraint-count t c x 0 n) (constraints-counted n t cs (x + differenceCount t c))
+
+-- ---- the listing
 
 module _ (m : Model) (z : Sized m) where
   pub table-length : length (tableOf m) ≡ m .s
@@ -30,26 +145,29 @@ module _ (m : Model) (z : Sized m) where
   group-block b h = rw (le-leb b (m .s) h)
 
   pub constraint-block : (b : ℕ) → m .s < b
-      → blockClauses m b ≡ constraintClauses (m .n) (tableOf m) (getD (constraintsOf m) (b - m .s - 1) zeroConstraint)
+      → blockClauses m b
+      ≡ constraintClauses (m .n) (tableOf m) (firstDifference (1 + tableVariables (tableOf m)) m (b - m .s)) (getD (constraintsOf m) (b - m .s - 1) zeroConstraint)
   unfolding blockClauses
   constraint-block b h = rw (lt-leb b (m .s) h)
 
   -- the groups' clauses, then the constraints'
-  pub clauses-parts : clauses m ≡ each (groupClauses (tableOf m)) (range 1 (m .s)) ++ each (constraintClauses (m .n) (tableOf m)) (constraintsOf m)
-  unfolding clauses blockCount
+  pub clauses-parts : clauses m
+      ≡ each (groupClauses (tableOf m)) (range 1 (m .s)) ++ overConstraints (tableOf m) (constraintClauses (m .n) (tableOf m)) (constraintsOf m) (1 + tableVariables (tableOf m))
+  unfolding clauses blockCount firstDifference
   clauses-parts =
       ap (each (blockClauses m)) (range-append 1 (m .s) (m .c))
       ∙ each-append (blockClauses m) (range 1 (m .s)) (range (1 + m .s) (m .c))
       ∙ ap₂ (λ (x y : List (List Literal)). x ++ y)
       (each-range-ext (blockClauses m) (groupClauses (tableOf m)) 1 (m .s) (λ j l k. group-block j (omega arith)))
-      (each-range-ext (blockClauses m) (λ b. ofConstraint (getD (constraintsOf m) (b - (1 + m .s)) zeroConstraint)) (1 + m .s) (m .c)
-      (λ j l k. constraint-block j (omega arith) ∙ ap (λ (i : ℕ). ofConstraint (getD (constraintsOf m) i zeroConstraint)) (omega arith))
-      ∙ sym (each-map ofConstraint (λ b. getD (constraintsOf m) (b - (1 + m .s)) zeroConstraint) (range (1 + m .s) (m .c)))
-      ∙ ap (each ofConstraint) (ap (λ (k : ℕ). map (λ b. getD (constraintsOf m) (b - (1 + m .s)) zeroConstraint) (range (1 + m .s) k)) (sym constraints-length)
-      ∙ places (1 + m .s) (constraintsOf m) zeroConstraint))
+      (each-range-ext (blockClauses m) (λ b. at (b - (1 + m .s))) (1 + m .s) (m .c)
+      (λ j l k. constraint-block j (omega arith) ∙ ap at {x = j - m .s - 1} {y = j - (1 + m .s)} (omega arith))
+      ∙ ap (λ (k : ℕ). each (λ b. at (b - (1 + m .s))) (range (1 + m .s) k)) (sym constraints-length)
+      ∙ constraints-numbered (tableOf m) (constraintClauses (m .n) (tableOf m)) (constraintsOf m) (1 + tableVariables (tableOf m)) (1 + m .s))
     where
-      ofConstraint : Constraint → List (List Literal)
-      ofConstraint = constraintClauses (m .n) (tableOf m)
+      at : ℕ → List (List Literal)
+      at i =
+          constraintClauses (m .n) (tableOf m) (1 + tableVariables (tableOf m) + total (differenceCount (tableOf m)) (take i (constraintsOf m)))
+          (getD (constraintsOf m) i zeroConstraint)
 
   pub groups-places : map (groupAt (tableOf m)) (range 1 (m .s)) ≡ tableOf m
   unfolding groupAt
@@ -61,13 +179,13 @@ module _ (m : Model) (z : Sized m) where
   clauses-length =
       let t = tableOf m in
       ap length clauses-parts
-      ∙ length-append (each (groupClauses t) (range 1 (m .s))) (each (constraintClauses (m .n) t) (constraintsOf m))
+      ∙ length-append (each (groupClauses t) (range 1 (m .s))) (overConstraints t (constraintClauses (m .n) t) (constraintsOf m) (1 + tableVariables t))
       ∙ ap₂ (λ (x y : ℕ). x + y)
       (length-each (groupClauses t) (range 1 (m .s))
       ∙ total-ext (λ g. length (groupClauses t g)) (λ g. groupClauseCount (groupAt t g)) (group-length t) (range 1 (m .s))
       ∙ sym (total-map groupClauseCount (groupAt t) (range 1 (m .s)))
       ∙ ap (total groupClauseCount) groups-places)
-      (length-each (constraintClauses (m .n) t) (constraintsOf m))
+      (constraints-counted (m .n) t (constraintsOf m) (1 + tableVariables t))
 
 -- ---- from group to group
 

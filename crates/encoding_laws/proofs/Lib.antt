@@ -6,8 +6,9 @@ pub mod Steps
 pub mod Counts
 pub mod Groups
 pub mod Fixpoint
-pub mod Nonempty
 pub mod Row
+pub mod Differences
+pub mod Nonempty
 pub mod Values
 pub mod Whole
 pub mod Ranges

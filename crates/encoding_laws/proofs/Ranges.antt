@@ -1,12 +1,13 @@
 -- Every literal of the listing names a variable of 1..V. Assumes nothing.
 use mathlib.Core.Path.{_≡_, refl, sym, subst}
-use mathlib.Core.Bool.{Bool, true, false, cond}
+use mathlib.Core.Bool.{Bool, true, false, cond, _&&_}
 use mathlib.Core.List.{List, [], _∷_, _++_, map}
-use Prim.Native.Nat.{ℕ, zero, suc, _+_, _-_, _≤_, _<_}
+use Prim.Native.Nat.{ℕ, zero, suc, _+_, _-_, _%_, _^_, _≤_, _<_}
 use native.Mathlib.Omega.{arith}
 use native.Mathlib.Decide.{decLt}
-use lib.Dec.{T}
-use lib.ListN.{length, List·getD-eq-default}
+use lib.Dec.{T, eqb}
+use lib.ListN.{length, getD, take, List·getD-eq-default}
+use lib.Seq.{take-all}
 use Rattle.model.specs.declared.Literal.{Literal}
 use Rattle.model.specs.declared.Literal.the-variants.{Pos, Neg}
 use Rattle.model.specs.declared.Term.{Term}
@@ -17,20 +18,21 @@ use Rattle.model.specs.declared.Group.{Group}
 use Rattle.model.specs.declared.Constraint.{Constraint}
 use Rattle.model.specs.declared.Model.{Model}
 use Rattle.model.specs.Lists.{any, each, total, range}
-use Rattle.model.specs.Words.{bit, has}
-use Rattle.model.specs.Clauses.{clausesOf}
-use Rattle.model.specs.Model.{zeroGroup, groupAt, tableOf, constraintsOf}
+use Rattle.model.specs.Words.{size, bit, has}
+use Rattle.model.specs.Clauses.{memberClauses, isDifference}
+use Rattle.model.specs.Model.{zeroGroup, zeroConstraint, groupAt, tableOf, constraintsOf}
+use Rattle.model.specs.Difference.{isApart}
 use Rattle.model.specs.Propagate.{Settled}
 use Rattle.model.specs.Totalizer.{opposite, oppositeTerm, holds, literals, keep, formed, output, outputTerm, nodeTerms, putIn, dropped, rowClauses, nodeClauses, Shape, leaf, node, shape, leaves, outputs, rootOutput, nodeOver, nodes, treeClauses, unit, unitClauses, totalizerClauses, treeOutputCount}
-use Rattle.model.specs.Cnf.{openOf, openCount, atLeast, atMost, counted, outputsOf, firstVariable, firstOutput, variableOf, tableVariables, variableCount, groupClauses, membership, termOf, clausesAt, constraintClauses, clauses}
+use Rattle.model.specs.Cnf.{openOf, openCount, atLeast, atMost, counted, outputsOf, firstVariable, firstOutput, variableOf, tableVariables, isOpenDifference, differing, differenceCount, firstDifference, variableCount, groupClauses, membership, difference, constraintTerm, termOf, clausesAt, lastClause, constraintClauses, clauses}
 use Rattle.model.specs.Assignment.{variable}
-use Rattle.model.proofs.Words.{has-one, has-none, has-zero, bit-less, size-below-lt}
+use Rattle.model.proofs.Words.{size-zero, has-one, has-none, has-zero, bit-less, size-below-lt}
 use Rattle.model.proofs.Lists.{total-place, All, all-both, all-each, all-map-iff, all-of, range-all, all-place}
 use Rattle.encoding_laws.proofs.Node.{output-in, output-out}
 use Rattle.encoding_laws.proofs.Tree.{tree-node}
 use Rattle.encoding_laws.proofs.Totalizer.{leaves-shape}
 use Rattle.encoding_laws.proofs.Counts.{outputs-count}
-use Rattle.encoding_laws.proofs.Groups.{table-length, clauses-parts}
+use Rattle.encoding_laws.proofs.Groups.{table-length, overConstraints, clauses-parts}
 use Rattle.encoding_laws.proofs.Fixpoint.{SettledAmong, table-settled}
 use Rattle.encoding_laws.proofs.Whole.{OpenLimits, limits-of, counted-pos}
 
@@ -156,16 +158,14 @@ module _ (lo hi : ℕ) where
 
 -- ---- groups and constraints
 
-module _ (n : ℕ) (t : List Group) (s : All (SettledAmong n) t) where
-  hi : ℕ
-  hi = suc (tableVariables t)
-
+-- the variables of a table, and those after them, are below hi
+module _ (n : ℕ) (t : List Group) (s : All (SettledAmong n) t) (hi : ℕ) (room : suc (tableVariables t) ≤ hi) where
   first-variable : (g : ℕ) → g - 1 < length t → firstVariable t g + openCount (groupAt t g) ≤ 1 + total openCount t
   unfolding firstVariable groupAt
   first-variable g h = omega (arith, total-place openCount t (g - 1) zeroGroup h)
 
   first-output : (g : ℕ) → g - 1 < length t → firstOutput t g + outputsOf (groupAt t g) ≤ hi
-  unfolding firstOutput groupAt hi tableVariables
+  unfolding firstOutput groupAt tableVariables
   first-output g h = omega (arith, total-place outputsOf t (g - 1) zeroGroup h)
 
   group-in : (g : ℕ) → g - 1 < length t → InAll 1 hi (groupClauses t g)
@@ -183,7 +183,7 @@ module _ (n : ℕ) (t : List Group) (s : All (SettledAmong n) t) where
           totalizer-in 1 hi (openCount r) (firstVariable t g) (firstOutput t g) (atLeast r) (atMost r)
           (counted-pos (atLeast r) (atMost r) (openCount r) (l .low-open) (subst T (sym c) tt)) (l .low-open)
           (unfold firstVariable in omega arith) (unfold firstOutput in omega arith)
-          (let k = first-variable g h in unfold hi tableVariables in omega arith)
+          (let k = first-variable g h in unfold tableVariables in omega arith)
           (let k = first-output g h in let e : outputsOf r ≡ treeOutputCount (openCount r) = unfold outputsOf in rw c in omega arith)
       go false c = tt
 
@@ -202,26 +202,76 @@ module _ (n : ℕ) (t : List Group) (s : All (SettledAmong n) t) where
           let b : bit e (openOf r) ≡ 1 = unfold openOf in omega (arith, bit-less e (r .possible) (r .fixed), has-none (r .fixed) e p, has-one (r .possible) e q) in
           let k = size-below-lt e (openOf r) b in
           let f = first-variable g h in
-          unfold variableOf openCount firstVariable hi tableVariables in (omega arith, omega arith)
+          unfold variableOf openCount firstVariable tableVariables in (omega arith, omega arith)
       go false p true q (no h) =
           let z : r ≡ zeroGroup = unfold groupAt in List·getD-eq-default t zeroGroup {n = g - 1} (omega arith) in
           let f : has (r .possible) e ≡ false = rw z (unfold zeroGroup in has-zero e) in
           absurd (let c : _≡_ {A = ℕ} 0 1 = cc in omega arith)
 
-  term-in : (e : ℕ) (l : Literal) → InTerm 1 hi (termOf t e l)
-  unfolding termOf
-  term-in e (Pos g) = membership-in e g
-  term-in e (Neg g) = opposite-in 1 hi (membership t e g) (membership-in e g)
+  -- the X of a constraint are numbered from x on
+  module _ (x : ℕ) (c : Constraint) (first : 1 ≤ x) (last : x + differenceCount t c ≤ hi) where
+    difference-in : (e : ℕ) → InTerm 1 hi (difference x t c e)
+    unfolding difference differenceCount
+    difference-in e = go (has (differing t c) e) refl
+      where
+        go : (b : Bool) → has (differing t c) e ≡ b → InTerm 1 hi (cond b (Open (Pos (x + size (differing t c % 2 ^ e)))) Fails)
+        go true p = let k = size-below-lt e (differing t c) (has-one (differing t c) e p) in (omega arith, omega arith)
+        go false p = tt
 
-  constraint-in : (k : ℕ) (c : Constraint) → InAll 1 hi (constraintClauses k t c)
-  unfolding constraintClauses clausesAt
-  constraint-in k c =
-      all-each (All (In 1 hi)) (clausesAt t c) (range 0 k)
-      (all-of (λ e. InAll 1 hi (clausesAt t c e))
-      (λ e. all-each (All (In 1 hi)) (λ ls. keep (map (termOf t e) ls)) (clausesOf c)
-      (all-of (λ ls. InAll 1 hi (keep (map (termOf t e) ls)))
-      (λ ls. keep-in 1 hi (map (termOf t e) ls) (all-map-iff (InTerm 1 hi) (termOf t e) ls .1 (all-of (λ l. InTerm 1 hi (termOf t e l)) (term-in e) ls))) (clausesOf c)))
-      (range 0 k))
+    member-in : (e i : ℕ) → InTerm 1 hi (constraintTerm x t c e i)
+    unfolding constraintTerm
+    member-in e i = go (isDifference c && eqb i 2)
+      where
+        go : (b : Bool) → InTerm 1 hi (cond b (difference x t c e) (membership t e (getD (c .groups) i 0)))
+        go true = difference-in e
+        go false = membership-in e (getD (c .groups) i 0)
+
+    term-in : (e : ℕ) (l : Literal) → InTerm 1 hi (termOf (constraintTerm x t c e) l)
+    term-in e (Pos i) = member-in e i
+    term-in e (Neg i) = opposite-in 1 hi (constraintTerm x t c e i) (member-in e i)
+
+    entrant-in : (e : ℕ) → InAll 1 hi (clausesAt x t c e)
+    unfolding clausesAt
+    entrant-in e = go (isApart t c)
+      where
+        cs : List (List Literal)
+        cs = memberClauses (c .code) (c .count)
+
+        kept : List Literal → List (List Literal)
+        kept ls = keep (map (termOf (constraintTerm x t c e)) ls)
+
+        go : (b : Bool) → InAll 1 hi (cond b [] (each kept cs))
+        go true = tt
+        go false =
+            all-each (All (In 1 hi)) kept cs
+            (all-of (λ ls. InAll 1 hi (kept ls))
+            (λ ls. keep-in 1 hi (map (termOf (constraintTerm x t c e)) ls)
+            (all-map-iff (InTerm 1 hi) (termOf (constraintTerm x t c e)) ls .1 (all-of (λ l. InTerm 1 hi (termOf (constraintTerm x t c e) l)) (term-in e) ls))) cs)
+
+    last-in : (k : ℕ) → InAll 1 hi (lastClause k x t c)
+    unfolding lastClause
+    last-in k = go (isOpenDifference t c)
+      where
+        go : (b : Bool) → InAll 1 hi (cond b (keep (map (difference x t c) (range 0 k))) [])
+        go true =
+            keep-in 1 hi (map (difference x t c) (range 0 k))
+            (all-map-iff (InTerm 1 hi) (difference x t c) (range 0 k) .1 (all-of (λ e. InTerm 1 hi (difference x t c e)) difference-in (range 0 k)))
+        go false = tt
+
+    pub constraint-in : (k : ℕ) → InAll 1 hi (constraintClauses k t x c)
+    unfolding constraintClauses
+    constraint-in k =
+        all-both (All (In 1 hi)) (each (clausesAt x t c) (range 0 k)) (lastClause k x t c) .1 (
+          all-each (All (In 1 hi)) (clausesAt x t c) (range 0 k) (all-of (λ e. InAll 1 hi (clausesAt x t c e)) entrant-in (range 0 k)),
+          last-in k,
+        )
+
+  constraints-in : (k : ℕ) (cs : List Constraint) (x : ℕ) → 1 ≤ x → x + total (differenceCount t) cs ≤ hi
+      → InAll 1 hi (overConstraints t (constraintClauses k t) cs x)
+  constraints-in k [] x h l = tt
+  constraints-in k (c ∷ cs) x h l =
+      all-both (All (In 1 hi)) (constraintClauses k t x c) (overConstraints t (constraintClauses k t) cs (x + differenceCount t c)) .1
+      (constraint-in x c h (omega arith) k, constraints-in k cs (x + differenceCount t c) (omega arith) (omega arith))
 
 -- ---- the whole
 
@@ -229,23 +279,44 @@ abbrev pub VariablesIn : Model → List (List Literal) → Type 0
 VariablesIn m cs = InAll 1 (suc (variableCount m)) cs
 
 module _ (m : Model) (q : Settled m) where
-  pub group-variables : (g : ℕ) → 1 ≤ g → g ≤ m .s → VariablesIn m (groupClauses (tableOf m) g)
-  unfolding hi variableCount
-  group-variables g h k = group-in (m .n) (tableOf m) (table-settled m q) g (omega (arith, table-length m (q .sized)))
+  room-is : suc (tableVariables (tableOf m)) ≤ suc (variableCount m)
+  unfolding variableCount
+  room-is = omega arith
 
-  pub constraint-variables : (c : Constraint) → VariablesIn m (constraintClauses (m .n) (tableOf m) c)
-  unfolding hi variableCount
-  constraint-variables c = constraint-in (m .n) (tableOf m) (table-settled m q) (m .n) c
+  pub group-variables : (g : ℕ) → 1 ≤ g → g ≤ m .s → VariablesIn m (groupClauses (tableOf m) g)
+  group-variables g h k = group-in (m .n) (tableOf m) (table-settled m q) (suc (variableCount m)) room-is g (omega (arith, table-length m (q .sized)))
+
+  -- of constraint j
+  pub constraint-variables : (j : ℕ)
+      → VariablesIn m (constraintClauses (m .n) (tableOf m) (firstDifference (1 + tableVariables (tableOf m)) m j) (getD (constraintsOf m) (j - 1) zeroConstraint))
+  unfolding firstDifference variableCount
+  constraint-variables j =
+      constraint-in (m .n) (tableOf m) (table-settled m q) (suc (variableCount m)) room-is (1 + tableVariables (tableOf m) + total dc (take (j - 1) cs)) (getD cs (j - 1) zeroConstraint)
+      (omega arith) (let h = fits (decLt (j - 1) (length cs)) in omega arith) (m .n)
+    where
+      cs : List Constraint
+      cs = constraintsOf m
+
+      dc : Constraint → ℕ
+      dc = differenceCount (tableOf m)
+
+      none : dc zeroConstraint ≡ 0
+      none = unfold differenceCount differing isOpenDifference isDifference zeroConstraint in size-zero
+
+      fits : Dec (j - 1 < length cs) → total dc (take (j - 1) cs) + dc (getD cs (j - 1) zeroConstraint) ≤ total dc cs
+      fits (yes h) = total-place dc cs (j - 1) zeroConstraint h
+      fits (no h) = rw (List·getD-eq-default cs zeroConstraint {n = j - 1} (omega arith), none, take-all (j - 1) cs (omega arith)) (omega arith)
 
   -- every literal's variable is one of 1..V
   pub variables-in : VariablesIn m (clauses m)
   variables-in =
-      let gs = each (groupClauses (tableOf m)) (range 1 (m .s)) in
-      let cs = each (constraintClauses (m .n) (tableOf m)) (constraintsOf m) in
+      let t = tableOf m in
+      let hi = suc (variableCount m) in
+      let gs = each (groupClauses t) (range 1 (m .s)) in
+      let cs = overConstraints t (constraintClauses (m .n) t) (constraintsOf m) (1 + tableVariables t) in
       subst (VariablesIn m) (sym (clauses-parts m (q .sized)))
-      (all-both (All (In 1 (suc (variableCount m)))) gs cs .1 (
-        all-each (All (In 1 (suc (variableCount m)))) (groupClauses (tableOf m)) (range 1 (m .s))
-            (range-all (λ g. VariablesIn m (groupClauses (tableOf m) g)) 1 (m .s) (λ g h k. group-variables g h (omega arith))),
-        all-each (All (In 1 (suc (variableCount m)))) (constraintClauses (m .n) (tableOf m)) (constraintsOf m)
-            (all-of (λ c. VariablesIn m (constraintClauses (m .n) (tableOf m) c)) constraint-variables (constraintsOf m)),
+      (all-both (All (In 1 hi)) gs cs .1 (
+        all-each (All (In 1 hi)) (groupClauses t) (range 1 (m .s))
+            (range-all (λ g. VariablesIn m (groupClauses t g)) 1 (m .s) (λ g h k. group-variables g h (omega arith))),
+        constraints-in (m .n) t (table-settled m q) hi room-is (m .n) (constraintsOf m) (1 + tableVariables t) (omega arith) (unfold variableCount in omega arith),
       ))

@@ -1,8 +1,8 @@
 -- The satisfying assignments and the solutions match one for one. Assumes nothing.
 use mathlib.Core.Path.{_≡_, refl, sym, ap, ap₂, _∙_, subst}
-use mathlib.Core.Logic.{_↔_}
-use mathlib.Core.Bool.{Bool, true, false, not, _&&_, _||_, cond}
-use mathlib.Core.List.{List, [], _∷_, _++_, map}
+use mathlib.Core.Logic.{_↔_, _⊎_, inl, inr}
+use mathlib.Core.Bool.{Bool, true, false, not, _&&_, _||_, cond, Bool·beq}
+use mathlib.Core.List.{List, [], _∷_, _++_, map, append-nil}
 use Prim.Native.Nat.{ℕ, zero, suc, _+_, _-_, _%_, _^_, _≤_, _<_}
 use native.Mathlib.Omega.{arith}
 use native.Mathlib.Decide.{decLt}
@@ -13,34 +13,37 @@ use lib.ListN.{length, getD, take, drop, length-append, length-drop, take-append
 use lib.Seq.{drop-cons, take-all, take-at, drop-at}
 use Rattle.model.specs.declared.Literal.{Literal}
 use Rattle.model.specs.declared.Literal.the-variants.{Pos, Neg}
+use Rattle.model.specs.declared.Term.{Term}
 use Rattle.model.specs.declared.Term.the-variants.{Holds, Fails, Open}
 use Rattle.model.specs.declared.Group.{Group}
 use Rattle.model.specs.declared.Constraint.{Constraint}
 use Rattle.model.specs.declared.Model.{Model}
 use Rattle.model.specs.Lists.{every, any, pairwise, each, eachPair, total, range, between}
 use Rattle.model.specs.Limits.{limits}
-use Rattle.model.specs.Words.{size, inside, has}
-use Rattle.model.specs.Clauses.{byEntrant, memberCount, memberClauses, clausesOf}
-use Rattle.model.specs.Model.{groupAt, tableOf, constraintsOf, membersSized, codeInRange, constraintInRange}
+use Rattle.model.specs.Words.{less, size, inside, bit, has}
+use Rattle.model.specs.Clauses.{byEntrant, memberCount, memberClauses, isDifference}
+use Rattle.model.specs.Model.{zeroGroup, groupAt, memberAt, tableOf, constraintsOf, membersSized, constraintInRange}
+use Rattle.model.specs.Difference.{apart, isApart}
 use Rattle.model.specs.Propagate.{Settled}
 use Rattle.model.specs.Totalizer.{shape, totalizerClauses, treeOutputCount}
-use Rattle.model.specs.Cnf.{openOf, openCount, atLeast, atMost, counted, outputsOf, firstVariable, firstOutput, variableOf, tableVariables, variableCount, groupClauses, membership, termOf, clausesAt, constraintClauses, clauses}
+use Rattle.model.specs.Cnf.{openOf, openCount, atLeast, atMost, counted, outputsOf, firstVariable, firstOutput, variableOf, tableVariables, differing, differenceCount, variableCount, groupClauses, membership, difference, constraintTerm, termOf, clausesAt, lastClause, constraintClauses, clauses}
 use Rattle.model.specs.Solution.{allowed, setOf, constraintTrue, isSolution}
 use Rattle.model.specs.Close.{truth, termTrue, clauseTrue, satisfying, groupBy, groupsBy}
-use Rattle.model.specs.Fill.{count, openValues, variableValues, treeValues, outputValues, assignmentFor}
+use Rattle.model.specs.Fill.{count, openValues, variableValues, treeValues, outputValues, oneOf, memberSet, differenceValues, assignmentFor}
 use Rattle.model.specs.Demand.{isAssignment, isSatisfying}
-use Rattle.model.proofs.Words.{Sub, sub-inside, inside-sub, sub-less, sub-le, size-less, bit-less, bit-le, has-less, word-ext, where-lt, has-where}
-use Rattle.model.proofs.Lists.{T-true, T-false, and-left, and-right, and-both, every-each, every-map, every-ext, any-ext, every-range-ext, every-all-ext, values-make, values-append, values-length, append-iff, All, all-imp, all-zip, all-map-iff, all-of, all-getD, every-all, getD-map-in, range-getD, range-length}
-use Rattle.encoding_laws.proofs.Truth.{allTrue, allTrue-append, T-and, opposite-true, kept-true}
+use Rattle.model.proofs.Words.{bit-zero, bit-or, bit-ext, size-zero, Sub, sub-inside, inside-sub, sub-less, sub-le, size-less, bit-less, bit-le, has-less, word-ext, where-lt, has-where}
+use Rattle.model.proofs.Lists.{T-true, T-false, and-left, and-right, and-both, every-append, every-each, every-map, every-ext, any-map, any-ext, any-all-ext, every-range-ext, length-each, total-ext, values-make, values-append, values-length, append-iff, All, all-zip, all-map-iff, all-of, all-getD, range-all, every-all, getD-map-in, range-getD, range-length}
+use Rattle.encoding_laws.proofs.Truth.{allTrue, allTrue-append, T-and, opposite-true, keep-true, kept-true}
 use Rattle.encoding_laws.proofs.Tree.{tree-values-length, valuesFrom, count-le}
 use Rattle.encoding_laws.proofs.Totalizer.{totalizer-iff, leaves-shape}
 use Rattle.encoding_laws.proofs.Counts.{outputs-count}
-use Rattle.encoding_laws.proofs.Groups.{table-length, clauses-parts, overGroups, numbered}
+use Rattle.encoding_laws.proofs.Groups.{table-length, clauses-parts, overConstraints, overGroups, numbered}
 use Rattle.propagation_laws.proofs.GroupRule.{SettledGroup}
 use Rattle.propagation_laws.proofs.Ranges.{in-range, constraint-code, member-group}
-use Rattle.propagation_laws.proofs.Meaning.{literalFor, clausesFor, clausesHold, over-members, same-clauses, meaning-below}
+use Rattle.propagation_laws.proofs.Meaning.{literalFor, clausesFor, clausesHold, over-entrant, same-clauses, meaning-below, difference-sets}
 use Rattle.encoding_laws.proofs.Fixpoint.{SettledAmong, table-settled}
-use Rattle.model.proofs.Codes.{by-entrant}
+use Rattle.model.proofs.Codes.{entrant-or-seven}
+use Rattle.encoding_laws.proofs.Differences.{six-difference, six-apart, six-differing, six-last, six-member, zero-settled, differing-lt, apart-differing, apart-clauses, is-difference, apart-some, apart-bits, differing-bits, open-last, four, one-bits, one-has, one-lt, one-none, equal-words, four-true, differenceWord, difference-has, some-true}
 use Rattle.encoding_laws.proofs.Row.{inRow, rowWord, Apart, Holding, row-size, row-values, row-of, row-holding, open-length}
 
 -- ---- one group
@@ -305,6 +308,22 @@ module _ (n : ℕ) (a : List Bool) where
 
 -- ---- constraints
 
+pub no-values : (n w : ℕ) → openValues n 0 w ≡ []
+no-values n w = empty (openValues n 0 w) (open-length n 0 w (pow-pos n) ∙ size-zero)
+  where
+    empty : (xs : List Bool) → length xs ≡ 0 → xs ≡ []
+    empty [] h = refl
+    empty (x ∷ xs) h = absurd (omega arith)
+
+differences-length : (n : ℕ) (t : List Group) → All (SettledAmong n) t → (d : List ℕ) (c : Constraint) → length (differenceValues n t d c) ≡ differenceCount t c
+unfolding differenceValues differenceCount
+differences-length n t s d c = open-length n (differing t c) (oneOf (memberSet d c 0) (memberSet d c 1)) (differing-lt n t s c)
+
+differences-total : (n : ℕ) (t : List Group) → All (SettledAmong n) t → (d : List ℕ) (cs : List Constraint)
+    → length (each (differenceValues n t d) cs) ≡ total (differenceCount t) cs
+differences-total n t s d cs =
+    length-each (differenceValues n t d) cs ∙ total-ext (λ c. length (differenceValues n t d c)) (differenceCount t) (differences-length n t s d) cs
+
 module _ (m : Model) (a : List Bool) where
   -- bit e of the set of a group is its term's truth
   group-has : (g e : ℕ) → 1 ≤ g → g ≤ m .s → e < m .n → has (setOf (groupsBy m a) g) e ≡ termTrue a (membership (tableOf m) e g)
@@ -321,57 +340,294 @@ module _ (m : Model) (a : List Bool) where
       all-map-iff (λ w. w < 2 ^ m .n) (groupBy m a) (range 1 (m .s)) .1
       (all-of (λ g. groupBy m a g < 2 ^ m .n) (λ g. where-lt (λ e. termTrue a (membership (tableOf m) e g)) (m .n)) (range 1 (m .s)))
 
+  set-small : (g : ℕ) → setOf (groupsBy m a) g < 2 ^ m .n
+  unfolding setOf
+  set-small g = all-getD (λ w. w < 2 ^ m .n) 0 (pow-pos (m .n)) (groupsBy m a) sets-small (g - 1)
+
+  -- ---- codes 1 to 6
+
   -- a constraint's clauses for one entrant, by the members' terms
-  pub entrant-true : (c : Constraint) (e : ℕ)
-      → allTrue a (clausesAt (tableOf m) c e)
+  pub entrant-true : (x : ℕ) (c : Constraint) (e : ℕ) → T (byEntrant (c .code))
+      → allTrue a (clausesAt x (tableOf m) c e)
       ≡ clausesFor (λ i. termTrue a (membership (tableOf m) e (getD (c .groups) i 0))) (memberClauses (c .code) (c .count))
   unfolding clausesAt clausesFor
-  entrant-true c e =
-      kept-true a (termOf (tableOf m) e) (clausesOf c)
-      ∙ every-ext (any (λ l. termTrue a (termOf (tableOf m) e l))) (any (literalFor v))
-      (any-ext (λ l. termTrue a (termOf (tableOf m) e l)) (literalFor v) one) (clausesOf c)
-      ∙ over-members v c
+  entrant-true x c e six =
+      let cs = memberClauses (c .code) (c .count) in
+      rw (six-apart (tableOf m) c six)
+      (kept-true a (termOf term) cs
+      ∙ every-ext (any (λ l. termTrue a (termOf term l))) (any (literalFor v)) (any-ext (λ l. termTrue a (termOf term l)) (literalFor v) one) cs)
     where
-      v : ℕ → Bool
-      v g = termTrue a (membership (tableOf m) e g)
+      term : ℕ → Term
+      term = constraintTerm x (tableOf m) c e
 
-      one : (l : Literal) → termTrue a (termOf (tableOf m) e l) ≡ literalFor v l
-      one (Pos g) = unfold termOf literalFor in refl
-      one (Neg g) = unfold termOf literalFor in opposite-true a (membership (tableOf m) e g)
+      v : ℕ → Bool
+      v i = termTrue a (membership (tableOf m) e (getD (c .groups) i 0))
+
+      one : (l : Literal) → termTrue a (termOf term l) ≡ literalFor v l
+      one (Pos i) = unfold literalFor in ap (termTrue a) (six-member (tableOf m) c six x e i)
+      one (Neg i) = unfold literalFor in opposite-true a (term i) ∙ ap (λ (y : Term). not (termTrue a y)) (six-member (tableOf m) c six x e i)
 
   -- where the sets d have each group's terms for bits, for all entrants
-  pub constraint-entrants : (c : Constraint) (d : List ℕ) → T (byEntrant (c .code))
+  pub constraint-entrants : (x : ℕ) (c : Constraint) (d : List ℕ) → T (byEntrant (c .code))
       → ((i e : ℕ) → i < memberCount (c .code) (c .count) → e < m .n
       → has (setOf d (getD (c .groups) i 0)) e ≡ termTrue a (membership (tableOf m) e (getD (c .groups) i 0)))
-      → allTrue a (constraintClauses (m .n) (tableOf m) c)
+      → allTrue a (constraintClauses (m .n) (tableOf m) x c)
       ≡ every (λ e. clausesFor (λ i. has (setOf d (getD (c .groups) i 0)) e) (memberClauses (c .code) (c .count))) (range 0 (m .n))
   unfolding constraintClauses
-  constraint-entrants c d t bits =
-      every-each (clauseTrue a) (clausesAt (tableOf m) c) (range 0 (m .n))
-      ∙ every-range-ext (λ e. allTrue a (clausesAt (tableOf m) c e))
+  constraint-entrants x c d six bits =
+      ap (allTrue a) (ap (λ (l : List (List Literal)). each (clausesAt x (tableOf m) c) (range 0 (m .n)) ++ l) (six-last (tableOf m) c six (m .n) x)
+      ∙ append-nil (each (clausesAt x (tableOf m) c) (range 0 (m .n))))
+      ∙ every-each (clauseTrue a) (clausesAt x (tableOf m) c) (range 0 (m .n))
+      ∙ every-range-ext (λ e. allTrue a (clausesAt x (tableOf m) c e))
       (λ e. clausesFor (λ i. has (setOf d (getD (c .groups) i 0)) e) (memberClauses (c .code) (c .count))) 0 (m .n)
-      (λ e _ h. entrant-true c e
-      ∙ same-clauses (λ i. termTrue a (membership (tableOf m) e (getD (c .groups) i 0))) (λ i. has (setOf d (getD (c .groups) i 0)) e) (c .code) (c .count) t
+      (λ e _ h. entrant-true x c e six
+      ∙ same-clauses (λ i. termTrue a (membership (tableOf m) e (getD (c .groups) i 0))) (λ i. has (setOf d (getD (c .groups) i 0)) e) (c .code) (c .count) six
       (λ i l. sym (bits i e l (omega arith))))
 
-  constraint-true : (c : Constraint) → T (constraintInRange (m .s) c) → limits .members ≤ length (c .groups)
-      → allTrue a (constraintClauses (m .n) (tableOf m) c) ≡ constraintTrue (groupsBy m a) c
+  constraint-true : (x : ℕ) (c : Constraint) → T (constraintInRange (m .s) c) → T (byEntrant (c .code)) → limits .members ≤ length (c .groups)
+      → allTrue a (constraintClauses (m .n) (tableOf m) x c) ≡ constraintTrue (groupsBy m a) c
   unfolding clausesHold
-  constraint-true c t wide =
-      constraint-entrants c d (by-entrant (c .code) (c .count) code)
+  constraint-true x c t six wide =
+      constraint-entrants x c d six
       (λ i e l h. let g = member-group (m .s) c t i l wide in group-has (getD (c .groups) i 0) e (g .0) (g .1) h)
-      ∙ sym (meaning-below c code wide (m .n) d small
+      ∙ sym (meaning-below c (constraint-code (m .s) c t) six wide (m .n) d set-small
       ∙ every-ext (clausesHold d c) (λ e. clausesFor (λ i. has (setOf d (getD (c .groups) i 0)) e) (memberClauses (c .code) (c .count)))
-      (λ e. over-members (λ g. has (setOf d g) e) c) (range 0 (m .n)))
+      (λ e. over-entrant (λ g. has (setOf d g) e) c six) (range 0 (m .n)))
     where
       d : List ℕ
       d = groupsBy m a
 
-      code : T (codeInRange (c .code) (c .count))
-      code = constraint-code (m .s) c t
+  -- ---- code 7
 
-      small : (g : ℕ) → setOf d g < 2 ^ m .n
-      small g = unfold setOf in all-getD (λ w. w < 2 ^ m .n) 0 (pow-pos (m .n)) d sets-small (g - 1)
+  -- the set of a group holds the fixed entrants and otherwise open ones only
+  set-holding : All (SettledAmong (m .n)) (tableOf m) → (g : ℕ) → 1 ≤ g → g ≤ m .s → (e : ℕ)
+      → (bit e (groupAt (tableOf m) g .fixed) ≤ bit e (setOf (groupsBy m a) g)) × (bit e (setOf (groupsBy m a) g) ≤ bit e (groupAt (tableOf m) g .possible))
+  unfolding setOf groupsBy groupBy rowWord openOf
+  set-holding s g h k e =
+      let t = tableOf m in
+      let q : Group = groupAt t g in
+      let st : SettledAmong (m .n) q = unfold groupAt in all-getD (SettledAmong (m .n)) zeroGroup (zero-settled (m .n)) t s (g - 1) in
+      let is : setOf (groupsBy m a) g ≡ rowWord (truth a) (m .n) (q .fixed) (openOf q) (firstVariable t g) =
+      getD-map-in (groupBy m a) (range 1 (m .s)) (g - 1) 0 0 (omega (arith, range-length 1 (m .s)))
+      ∙ ap (groupBy m a) (range-getD 1 (m .s) (g - 1) 0 (omega arith) ∙ omega arith)
+      ∙ word-ext (λ e. termTrue a (membership t e g)) (inRow (truth a) (q .fixed) (openOf q) (firstVariable t g)) (m .n) (λ e l. member-true a t g e) in
+      let w = row-holding (truth a) (m .n) (q .fixed) (openOf q) (firstVariable t g) (fixed-lt (m .n) q st) in
+      rw is (w .low e, omega (arith, w .high e, bit-less e (q .possible) (q .fixed), st .group .fits .at e))
+
+  module _ (s : All (SettledAmong (m .n)) (tableOf m)) (c : Constraint) (t : T (constraintInRange (m .s) c)) (wide : limits .members ≤ length (c .groups)) (seven : c .code ≡ 7) where
+    pub F : ℕ
+    F = memberSet (groupsBy m a) c 0
+
+    pub G : ℕ
+    G = memberSet (groupsBy m a) c 1
+
+    member-in : (i : ℕ) → i < 2 → (1 ≤ getD (c .groups) i 0) × (getD (c .groups) i 0 ≤ m .s)
+    member-in i h =
+        let two : memberCount (c .code) (c .count) ≡ 2 = rw seven (unfold memberCount in refl) in
+        member-group (m .s) c t i (omega arith) wide
+
+    -- the sets by bits
+    F-bits : (e : ℕ) → (bit e (memberAt (tableOf m) c 0 .fixed) ≤ bit e F) × (bit e F ≤ bit e (memberAt (tableOf m) c 0 .possible))
+    unfolding memberAt F
+    F-bits e = let g = member-in 0 (omega arith) in set-holding s (getD (c .groups) 0 0) (g .0) (g .1) e
+
+    G-bits : (e : ℕ) → (bit e (memberAt (tableOf m) c 1 .fixed) ≤ bit e G) × (bit e G ≤ bit e (memberAt (tableOf m) c 1 .possible))
+    unfolding memberAt G
+    G-bits e = let g = member-in 1 (omega arith) in set-holding s (getD (c .groups) 1 0) (g .0) (g .1) e
+
+    is-true : constraintTrue (groupsBy m a) c ≡ not (eqb (oneOf F G) 0)
+    unfolding F G
+    is-true = difference-sets c seven wide (groupsBy m a) ∙ ap not (sym (one-none F G))
+
+    -- an entrant who differs already is in just one of the sets
+    apart-true : isApart (tableOf m) c ≡ true → T (constraintTrue (groupsBy m a) c)
+    unfolding apart
+    apart-true e = rw is-true (go (eqb (oneOf F G) 0) refl)
+      where
+        f : Group
+        f = memberAt (tableOf m) c 0
+
+        g : Group
+        g = memberAt (tableOf m) c 1
+
+        go : (b : Bool) → eqb (oneOf F G) 0 ≡ b → T (not b)
+        go false p = tt
+        go true p =
+            let z : oneOf F G ≡ 0 = eqb→eq (oneOf F G) 0 (subst T (sym p) tt) in
+            let n : apart f g ≡ 0 = bit-ext (apart f g) 0 (λ i. omega (
+              arith,
+              bit-or i (less (f .fixed) (g .possible)) (less (g .fixed) (f .possible)),
+              bit-less i (f .fixed) (g .possible),
+              bit-less i (g .fixed) (f .possible),
+              bit-zero i,
+              one-bits i F G,
+              ap (bit i) z,
+              F-bits i .0,
+              F-bits i .1,
+              G-bits i .0,
+              G-bits i .1,
+            )) in
+            subst (λ (w : ℕ). T (not (eqb w 0))) n (apart-some (tableOf m) c seven e)
+
+    module _ (x : ℕ) (clear : isApart (tableOf m) c ≡ false) where
+      pub W : ℕ
+      W = differenceWord a (m .n) x (tableOf m) c
+
+      W-lt : W < 2 ^ m .n
+      unfolding W rowWord
+      W-lt = where-lt (inRow (truth a) 0 (differing (tableOf m) c) x) (m .n)
+
+      D-lt : oneOf F G < 2 ^ m .n
+      unfolding F G
+      D-lt = one-lt (m .n) F G (set-small (getD (c .groups) 0 0)) (set-small (getD (c .groups) 1 0))
+
+      at-entrant : (e : ℕ) → e < m .n → allTrue a (clausesAt x (tableOf m) c e) ≡ Bool·beq (has W e) (has (oneOf F G) e)
+      unfolding W F G
+      at-entrant e h =
+          let p = member-in 0 (omega arith) in
+          let q = member-in 1 (omega arith) in
+          ap (allTrue a) (four x (tableOf m) c seven clear e)
+          ∙ four-true a (membership (tableOf m) e (getD (c .groups) 0 0)) (membership (tableOf m) e (getD (c .groups) 1 0)) (difference x (tableOf m) c e)
+          ∙ ap₂ Bool·beq (difference-has a (m .n) x (tableOf m) c e h)
+          (ap₂ (λ (u v : Bool). (u || v) && not (u && v)) (sym (group-has (getD (c .groups) 0 0) e (p .0) (p .1) h)) (sym (group-has (getD (c .groups) 1 0) e (q .0) (q .1) h))
+          ∙ sym (one-has e F G))
+
+      -- the clauses say that the X are those of just one set, and that there is one
+      pub clauses-say : allTrue a (constraintClauses (m .n) (tableOf m) x c) ≡ (eqb W (oneOf F G) && not (eqb W 0))
+      unfolding constraintClauses
+      clauses-say =
+          every-append (clauseTrue a) (each (clausesAt x (tableOf m) c) (range 0 (m .n))) (lastClause (m .n) x (tableOf m) c)
+          ∙ ap₂ _&&_
+          (every-each (clauseTrue a) (clausesAt x (tableOf m) c) (range 0 (m .n))
+          ∙ every-range-ext (λ e. allTrue a (clausesAt x (tableOf m) c e)) (λ e. Bool·beq (has W e) (has (oneOf F G) e)) 0 (m .n) (λ e _ h. at-entrant e (omega arith))
+          ∙ sym (equal-words (m .n) W (oneOf F G) W-lt D-lt))
+          (ap (allTrue a) (open-last (tableOf m) c seven clear (m .n) x)
+          ∙ keep-true a (map (difference x (tableOf m) c) (range 0 (m .n)))
+          ∙ any-map (termTrue a) (difference x (tableOf m) c) (range 0 (m .n))
+          ∙ any-all-ext (λ e. termTrue a (difference x (tableOf m) c e)) (has W) (range 0 (m .n))
+          (range-all (λ e. termTrue a (difference x (tableOf m) c e) ≡ has W e) 0 (m .n) (λ e _ h. unfold W in difference-has a (m .n) x (tableOf m) c e (omega arith)))
+          ∙ some-true (m .n) W W-lt)
+
+      none-apart : Apart 0 (differing (tableOf m) c)
+      none-apart = record { bits = λ e. omega (arith, bit-zero e, bit-le e (differing (tableOf m) c)) }
+
+      -- an entrant in just one set is open in one group
+      D-holding : Holding 0 (differing (tableOf m) c) (oneOf F G)
+      D-holding = record {
+        low = λ e. omega (arith, bit-zero e);
+        high = λ e. omega (
+          arith,
+          bit-zero e,
+          one-bits e F G,
+          F-bits e .0,
+          F-bits e .1,
+          G-bits e .0,
+          G-bits e .1,
+          apart-bits (tableOf m) c seven clear e .0,
+          apart-bits (tableOf m) c seven clear e .1,
+          differing-bits (tableOf m) c seven clear e,
+          bit-le e (memberAt (tableOf m) c 0 .possible),
+          bit-le e (memberAt (tableOf m) c 1 .possible),
+        );
+      }
+
+      open-iff : T (allTrue a (constraintClauses (m .n) (tableOf m) x c))
+          ↔ ((valuesFrom a x (differenceCount (tableOf m) c) ≡ differenceValues (m .n) (tableOf m) (groupsBy m a) c) × T (constraintTrue (groupsBy m a) c))
+      unfolding differenceCount differenceValues F G
+      open-iff =
+          let o = differing (tableOf m) c in
+          let lt = differing-lt (m .n) (tableOf m) s c in
+          let b = T-and (eqb W (oneOf F G)) (not (eqb W 0)) in
+          let v : openValues (m .n) o W ≡ valuesFrom a x (size o) = unfold W in row-values (truth a) (m .n) 0 o x lt none-apart in (
+            λ h. let q = b .0 (subst T clauses-say h) in
+                let e : W ≡ oneOf F G = eqb→eq W (oneOf F G) (q .0) in
+                (sym v ∙ ap (openValues (m .n) o) e, subst T (sym is-true) (subst (λ (w : ℕ). T (not (eqb w 0))) e (q .1))),
+            λ h. let e : W ≡ oneOf F G = unfold W in row-of (truth a) (m .n) 0 o x (oneOf F G) (pow-pos (m .n)) lt D-lt none-apart D-holding (h .0) in
+                subst T (sym clauses-say)
+                (b .1 (subst (λ (w : ℕ). T (eqb w (oneOf F G))) (sym e) (eqb-refl (oneOf F G)), subst (λ (w : ℕ). T (not (eqb w 0))) (sym e) (subst T is-true (h .1)))),
+          )
+
+  -- for the closing call, one test a constraint: nothing where an entrant differs already; else the X are those of just one set, and there is one
+  pub constraint-says : All (SettledAmong (m .n)) (tableOf m) → (x : ℕ) (c : Constraint) → T (constraintInRange (m .s) c) → limits .members ≤ length (c .groups)
+      → allTrue a (constraintClauses (m .n) (tableOf m) x c)
+      ≡ cond (isDifference c)
+      (isApart (tableOf m) c
+      || (eqb (differenceWord a (m .n) x (tableOf m) c) (oneOf (memberSet (groupsBy m a) c 0) (memberSet (groupsBy m a) c 1))
+      && not (eqb (differenceWord a (m .n) x (tableOf m) c) 0)))
+      (constraintTrue (groupsBy m a) c)
+  unfolding F G W
+  constraint-says s x c t wide = go (entrant-or-seven (c .code) (c .count) (constraint-code (m .s) c t))
+    where
+      test : Bool
+      test =
+          eqb (differenceWord a (m .n) x (tableOf m) c) (oneOf (memberSet (groupsBy m a) c 0) (memberSet (groupsBy m a) c 1))
+          && not (eqb (differenceWord a (m .n) x (tableOf m) c) 0)
+
+      by-apart : c .code ≡ 7 → (b : Bool) → isApart (tableOf m) c ≡ b → allTrue a (constraintClauses (m .n) (tableOf m) x c) ≡ (b || test)
+      by-apart seven true e = ap (allTrue a) (apart-clauses (tableOf m) c seven e (m .n) x)
+      by-apart seven false e = clauses-say s c t wide seven x e
+
+      go : T (byEntrant (c .code)) ⊎ (c .code ≡ 7)
+          → allTrue a (constraintClauses (m .n) (tableOf m) x c) ≡ cond (isDifference c) (isApart (tableOf m) c || test) (constraintTrue (groupsBy m a) c)
+      go (inl six) = rw (six-difference (tableOf m) c six) (constraint-true x c t six wide)
+      go (inr seven) = rw (is-difference (tableOf m) c seven) (by-apart seven (isApart (tableOf m) c) refl)
+
+  -- ---- a constraint: its X are determined by the sets, and it is true
+
+  pub constraint-iff : All (SettledAmong (m .n)) (tableOf m) → (x : ℕ) (c : Constraint) → T (constraintInRange (m .s) c) → limits .members ≤ length (c .groups)
+      → T (allTrue a (constraintClauses (m .n) (tableOf m) x c))
+      ↔ ((valuesFrom a x (differenceCount (tableOf m) c) ≡ differenceValues (m .n) (tableOf m) (groupsBy m a) c) × T (constraintTrue (groupsBy m a) c))
+  constraint-iff s x c t wide = go (entrant-or-seven (c .code) (c .count) (constraint-code (m .s) c t))
+    where
+      Iff : Type 0
+      Iff = T (allTrue a (constraintClauses (m .n) (tableOf m) x c))
+          ↔ ((valuesFrom a x (differenceCount (tableOf m) c) ≡ differenceValues (m .n) (tableOf m) (groupsBy m a) c) × T (constraintTrue (groupsBy m a) c))
+
+      -- no X
+      none : differing (tableOf m) c ≡ 0 → valuesFrom a x (differenceCount (tableOf m) c) ≡ differenceValues (m .n) (tableOf m) (groupsBy m a) c
+      none e = unfold differenceCount differenceValues in rw (e, size-zero) (sym (no-values (m .n) (oneOf (memberSet (groupsBy m a) c 0) (memberSet (groupsBy m a) c 1))))
+
+      by-apart : c .code ≡ 7 → (b : Bool) → isApart (tableOf m) c ≡ b → Iff
+      by-apart seven true e = (
+        λ h. (none (apart-differing (tableOf m) c seven e), apart-true s c t wide seven e),
+        λ h. rw (apart-clauses (tableOf m) c seven e (m .n) x) tt,
+      )
+      by-apart seven false e = open-iff s c t wide seven x e
+
+      go : T (byEntrant (c .code)) ⊎ (c .code ≡ 7) → Iff
+      go (inl six) = (
+        λ h. (none (six-differing (tableOf m) c six), subst T (constraint-true x c t six wide) h),
+        λ h. subst T (sym (constraint-true x c t six wide)) (h .1),
+      )
+      go (inr seven) = by-apart seven (isApart (tableOf m) c) refl
+
+  constraints-iff : All (SettledAmong (m .n)) (tableOf m) → (cs : List Constraint) (x : ℕ)
+      → All (λ c. T (constraintInRange (m .s) c) × T (leb (limits .members) (length (c .groups)))) cs
+      → T (allTrue a (overConstraints (tableOf m) (constraintClauses (m .n) (tableOf m)) cs x))
+      ↔ ((valuesFrom a x (total (differenceCount (tableOf m)) cs) ≡ each (differenceValues (m .n) (tableOf m) (groupsBy m a)) cs)
+      × T (every (constraintTrue (groupsBy m a)) cs))
+  constraints-iff s [] x h = (λ t. (refl, tt), λ t. tt)
+  constraints-iff s (c ∷ cs) x h =
+      let t = tableOf m in
+      let k : ℕ = differenceCount t c in
+      let d = groupsBy m a in
+      let one = constraint-iff s x c (h .0 .0) (leb→le (limits .members) (length (c .groups)) (h .0 .1)) in
+      let rest = constraints-iff s cs (x + k) (h .1) in
+      let p = allTrue-append a (constraintClauses (m .n) t x c) (overConstraints t (constraintClauses (m .n) t) cs (x + k)) in
+      let w = T-and (constraintTrue d c) (every (constraintTrue d) cs) in
+      let z =
+      append-iff (valuesFrom a x k) (valuesFrom a (x + k) (total (differenceCount t) cs)) (differenceValues (m .n) t d c) (each (differenceValues (m .n) t d) cs)
+      (values-length (truth a) x k ∙ sym (differences-length (m .n) t s d c)) in
+      let ours : valuesFrom a x (k + total (differenceCount t) cs) ≡ valuesFrom a x k ++ valuesFrom a (x + k) (total (differenceCount t) cs) =
+      values-append (truth a) x k (total (differenceCount t) cs) in (
+        λ y. let q = p .0 y in
+            let u = one .0 (q .0) in
+            let v = rest .0 (q .1) in
+            (ours ∙ z .1 (u .0, v .0), w .1 (u .1, v .1)),
+        λ y. let q = z .0 (sym ours ∙ y .0) in
+            let u = w .0 (y .1) in
+            p .1 (one .1 (q .0, u .0), rest .1 (q .1, u .1)),
+      )
 
 -- ---- the whole
 
@@ -393,9 +649,16 @@ filled-length m q d hd =
     let t = tableOf m in
     let settled = table-settled m q in
     let hp = and-left (pairwise allowed t d) (every (constraintTrue d) (constraintsOf m)) hd in
-    length-append (variablesBy (m .n) t d) (eachPair (outputValues (m .n)) t d)
-    ∙ ap₂ (λ (x y : ℕ). x + y) (values-total (m .n) t d settled hp)
-    (ap length (sym (outputs-by (m .n) t d settled hp)) ∙ length-fillAll t (variablesBy (m .n) t d))
+    let os = eachPair (outputValues (m .n)) t d in
+    let xs = each (differenceValues (m .n) t d) (constraintsOf m) in
+    length-append (variablesBy (m .n) t d) (os ++ xs)
+    ∙ omega (
+      arith,
+      values-total (m .n) t d settled hp,
+      length-append os xs,
+      ap length (sym (outputs-by (m .n) t d settled hp)) ∙ length-fillAll t (variablesBy (m .n) t d),
+      differences-total (m .n) t settled d (constraintsOf m),
+    )
 
 module _ (m : Model) (q : Settled m) (wide : T (membersSized m)) where
   opens : ℕ
@@ -425,57 +688,71 @@ module _ (m : Model) (q : Settled m) (wide : T (membersSized m)) where
       ∙ ap (every (allTrue a)) (numbered clausesFrom (tableOf m)) in
       (λ h. subst T e h, λ h. subst T (sym e) h)
 
-  constraints-are : (a : List Bool) → allTrue a (each (constraintClauses (m .n) (tableOf m)) (constraintsOf m)) ≡ every (constraintTrue (groupsBy m a)) (constraintsOf m)
-  constraints-are a =
-      every-each (clauseTrue a) (constraintClauses (m .n) (tableOf m)) (constraintsOf m)
-      ∙ every-all-ext (λ c. allTrue a (constraintClauses (m .n) (tableOf m) c)) (constraintTrue (groupsBy m a)) (constraintsOf m)
-      (all-imp (λ c. T (constraintInRange (m .s) c) × T (leb (limits .members) (length (c .groups))))
-      (λ c. allTrue a (constraintClauses (m .n) (tableOf m) c) ≡ constraintTrue (groupsBy m a) c)
-      (λ c h. constraint-true m a c (h .0) (leb→le (limits .members) (length (c .groups)) (h .1))) (constraintsOf m)
-      (all-zip (λ c. T (constraintInRange (m .s) c)) (λ c. T (leb (limits .members) (length (c .groups)))) (constraintsOf m)
+  constraints-good : All (λ c. T (constraintInRange (m .s) c) × T (leb (limits .members) (length (c .groups)))) (constraintsOf m)
+  constraints-good =
+      all-zip (λ c. T (constraintInRange (m .s) c)) (λ c. T (leb (limits .members) (length (c .groups)))) (constraintsOf m)
       (every-all (constraintInRange (m .s)) (constraintsOf m) (in-range m (q .in-range) .constraints))
-      (every-all (λ c. leb (limits .members) (length (c .groups))) (constraintsOf m) wide)))
+      (every-all (λ c. leb (limits .members) (length (c .groups))) (constraintsOf m) wide)
+
+  -- the values after the open marks: those of the outputs and of the X
+  extras : List ℕ → List Bool → List Bool
+  extras d xs = fillAll (tableOf m) xs ++ each (differenceValues (m .n) (tableOf m) d) (constraintsOf m)
+
+  outs : ℕ
+  outs = total outputsOf (tableOf m)
+
+  exes : ℕ
+  exes = total (differenceCount (tableOf m)) (constraintsOf m)
 
   open-part : (a : List Bool) → length a ≡ variableCount m → valuesFrom a 1 opens ≡ take opens a
   unfolding opens variableCount tableVariables
   open-part a h = values-are (false ∷ a) 1 opens (omega arith)
 
-  output-part : (a : List Bool) → length a ≡ variableCount m → valuesFrom a (1 + opens) (total outputsOf (tableOf m)) ≡ drop opens a
-  unfolding opens variableCount tableVariables
-  output-part a h =
+  extra-part : (a : List Bool) → length a ≡ variableCount m → valuesFrom a (1 + opens) outs ++ valuesFrom a (1 + tableVariables (tableOf m)) exes ≡ drop opens a
+  unfolding opens outs exes variableCount tableVariables
+  extra-part a h =
       let e : 1 + opens ≡ suc opens = omega arith in
-      rw e
-      (values-are (false ∷ a) (suc opens) (total outputsOf (tableOf m)) (omega arith)
-      ∙ take-all (total outputsOf (tableOf m)) (drop opens a) (rw length-drop (omega arith)))
+      let f : 1 + opens + outs ≡ 1 + tableVariables (tableOf m) = omega arith in
+      ap (λ (k : ℕ). valuesFrom a (1 + opens) outs ++ valuesFrom a k exes) (sym f)
+      ∙ sym (values-append (truth a) (1 + opens) outs exes)
+      ∙ ap (λ (k : ℕ). valuesFrom a k (outs + exes)) e
+      ∙ values-are (false ∷ a) (suc opens) (outs + exes) (omega arith)
+      ∙ take-all (outs + exes) (drop opens a) (rw length-drop (omega arith))
 
-  -- an assignment satisfies exactly when its outputs are filled in and its sets are a solution
+  -- an assignment satisfies exactly when its outputs and X are filled in and its sets are a solution
   main-iff : (a : List Bool) → length a ≡ variableCount m
-      → T (satisfying m a) ↔ ((drop opens a ≡ fillAll (tableOf m) (take opens a)) × T (isSolution m (groupsBy m a)))
-  unfolding satisfying isSolution opens
+      → T (satisfying m a) ↔ ((drop opens a ≡ extras (groupsBy m a) (take opens a)) × T (isSolution m (groupsBy m a)))
+  unfolding satisfying isSolution opens extras outs exes
   main-iff a h =
-      let gs = each (groupClauses (tableOf m)) (range 1 (m .s)) in
-      let cs = each (constraintClauses (m .n) (tableOf m)) (constraintsOf m) in
+      let t = tableOf m in
+      let gs = each (groupClauses t) (range 1 (m .s)) in
+      let cs = overConstraints t (constraintClauses (m .n) t) (constraintsOf m) (1 + tableVariables t) in
+      let xs = each (differenceValues (m .n) t (groupsBy m a)) (constraintsOf m) in
       let w = allTrue-append a gs cs in
       let e : allTrue a (clauses m) ≡ allTrue a (gs ++ cs) = ap (allTrue a) (clauses-parts m (q .sized)) in
-      let g = groups-iff (m .n) a (tableOf m) 1 (1 + opens) settled in
-      let k = constraints-are a in
-      let p = output-part a h in
-      let f = ap (fillAll (tableOf m)) (open-part a h) in
-      let d : pairwise allowed (tableOf m) (groupsBy m a) ≡ pairwise allowed (tableOf m) (overGroups (wordFrom (m .n) a) (tableOf m) 1 (1 + opens)) =
-      ap (pairwise allowed (tableOf m)) (sets-are a) in
-      let b = T-and (pairwise allowed (tableOf m) (groupsBy m a)) (every (constraintTrue (groupsBy m a)) (constraintsOf m)) in (
-        λ t. let y = w .0 (subst T e t) in
-            let u = g .0 (clauses-are a .0 (y .0)) in
-            (sym p ∙ u .0 ∙ f, b .1 (subst T (sym d) (u .1), subst T k (y .1))),
-        λ x. let y = b .0 (x .1) in
-            subst T (sym e) (w .1 (clauses-are a .1 (g .1 (p ∙ x .0 ∙ sym f, subst T d (y .0))), subst T (sym k) (y .1))),
+      let g = groups-iff (m .n) a t 1 (1 + opens) settled in
+      let k = constraints-iff m a settled (constraintsOf m) (1 + tableVariables t) constraints-good in
+      let p = extra-part a h in
+      let o = ap (fillAll t) (open-part a h) in
+      let y =
+      append-iff (valuesFrom a (1 + opens) outs) (valuesFrom a (1 + tableVariables t) exes) (fillAll t (take opens a)) xs
+      (values-length (truth a) (1 + opens) outs ∙ sym (length-fillAll t (take opens a))) in
+      let d : pairwise allowed t (groupsBy m a) ≡ pairwise allowed t (overGroups (wordFrom (m .n) a) t 1 (1 + opens)) = ap (pairwise allowed t) (sets-are a) in
+      let b = T-and (pairwise allowed t (groupsBy m a)) (every (constraintTrue (groupsBy m a)) (constraintsOf m)) in (
+        λ s. let c = w .0 (subst T e s) in
+            let u = g .0 (clauses-are a .0 (c .0)) in
+            let v = k .0 (c .1) in
+            (sym p ∙ y .1 (u .0 ∙ o, v .0), b .1 (subst T (sym d) (u .1), v .1)),
+        λ s. let c = y .0 (p ∙ s .0) in
+            let u = b .0 (s .1) in
+            subst T (sym e) (w .1 (clauses-are a .1 (g .1 (c .0 ∙ sym o, subst T d (u .0))), k .1 (c .1, u .1))),
       )
 
   length-is : (a : List Bool) → T (isSatisfying m a) → length a ≡ variableCount m
   unfolding isSatisfying isAssignment
   length-is a t = eqb→eq (length a) (variableCount m) (and-left (eqb (length a) (variableCount m)) (satisfying m a) t)
 
-  parts : (a : List Bool) → T (isSatisfying m a) → (drop opens a ≡ fillAll (tableOf m) (take opens a)) × T (isSolution m (groupsBy m a))
+  parts : (a : List Bool) → T (isSatisfying m a) → (drop opens a ≡ extras (groupsBy m a) (take opens a)) × T (isSolution m (groupsBy m a))
   unfolding isSatisfying isAssignment
   parts a t = main-iff a (length-is a t) .0 (and-right (eqb (length a) (variableCount m)) (satisfying m a) t)
 
@@ -488,19 +765,19 @@ module _ (m : Model) (q : Settled m) (wide : T (membersSized m)) where
     unfolding isSolution
     hp = and-left (pairwise allowed (tableOf m) d) (every (constraintTrue d) (constraintsOf m)) hd
 
-    whole-is : assignmentFor m d ≡ xs ++ fillAll (tableOf m) xs
-    unfolding xs assignmentFor
-    whole-is = ap (λ (l : List Bool). xs ++ l) (sym (outputs-by (m .n) (tableOf m) d settled hp))
+    whole-is : assignmentFor m d ≡ xs ++ extras d xs
+    unfolding xs assignmentFor extras
+    whole-is = ap (λ (l : List Bool). xs ++ (l ++ each (differenceValues (m .n) (tableOf m) d) (constraintsOf m))) (sym (outputs-by (m .n) (tableOf m) d settled hp))
 
     hx : length xs ≡ opens
     unfolding opens xs
     hx = values-total (m .n) (tableOf m) d settled hp
 
     tk : take opens (assignmentFor m d) ≡ xs
-    tk = ap (take opens) whole-is ∙ take-at xs (fillAll (tableOf m) xs) opens hx
+    tk = ap (take opens) whole-is ∙ take-at xs (extras d xs) opens hx
 
-    dr : drop opens (assignmentFor m d) ≡ fillAll (tableOf m) xs
-    dr = ap (drop opens) whole-is ∙ drop-at xs (fillAll (tableOf m) xs) opens hx
+    dr : drop opens (assignmentFor m d) ≡ extras d xs
+    dr = ap (drop opens) whole-is ∙ drop-at xs (extras d xs) opens hx
 
     pub filled-groups : groupsBy m (assignmentFor m d) ≡ d
     unfolding opens xs
@@ -511,7 +788,7 @@ module _ (m : Model) (q : Settled m) (wide : T (membersSized m)) where
     filled-satisfying =
         let a = assignmentFor m d in
         and-both (eqb (length a) (variableCount m)) (satisfying m a) (subst (λ (k : ℕ). T (eqb (length a) k)) (filled-length m q d hd) (eqb-refl (length a)))
-        (main-iff a (filled-length m q d hd) .1 (dr ∙ sym (ap (fillAll (tableOf m)) tk), subst (λ (x : List ℕ). T (isSolution m x)) (sym filled-groups) hd))
+        (main-iff a (filled-length m q d hd) .1 (dr ∙ sym (ap₂ extras filled-groups tk), subst (λ (x : List ℕ). T (isSolution m x)) (sym filled-groups) hd))
 
   pub one-for-one : OneForOne m
   unfolding opens
@@ -528,4 +805,4 @@ module _ (m : Model) (q : Settled m) (wide : T (membersSized m)) where
           tk = sym (opened a h) ∙ ap (variablesBy (m .n) (tableOf m)) e ∙ opened b k
 
           dr : drop opens a ≡ drop opens b
-          dr = parts a h .0 ∙ ap (fillAll (tableOf m)) tk ∙ sym (parts b k .0)
+          dr = parts a h .0 ∙ ap₂ extras e tk ∙ sym (parts b k .0)

@@ -1,19 +1,19 @@
 -- The answers of filling, refusal by refusal, and the values that it leaves. Assumes nothing.
 use mathlib.Core.Path.{_≡_, sym, ap, _∙_}
 use mathlib.Core.Bool.{Bool, true, false, not}
-use mathlib.Core.List.{List, _++_, append-nil}
+use mathlib.Core.List.{List, _++_, append-assoc, append-nil}
 use Prim.Native.Nat.{ℕ, _+_}
 use native.Mathlib.Omega.{arith}
 use borrow.Author.Tests.{eq-eqb, ne-eqb}
 use lib.Dec.{T, eqb}
 use lib.ListN.{length, take, length-append, drop-of-length-le}
 use Rattle.model.specs.declared.Model.{Model}
-use Rattle.model.specs.Lists.{eachPair, stop}
-use Rattle.model.specs.Model.{tableOf, Whole, inRange}
+use Rattle.model.specs.Lists.{each, eachPair, stop}
+use Rattle.model.specs.Model.{tableOf, constraintsOf, Whole, inRange}
 use Rattle.model.specs.Propagate.{isFixpoint, unsettledOr, Settled}
 use Rattle.model.specs.Cnf.{variableCount}
 use Rattle.model.specs.Solution.{isSolution}
-use Rattle.model.specs.Fill.{variableValues, outputValues, assignmentFor, valuesOf, fillRefusal, filledValues}
+use Rattle.model.specs.Fill.{variableValues, outputValues, differenceValues, assignmentFor, valuesOf, fillRefusal, filledValues}
 use Rattle.model.proofs.Lists.{true-T}
 use Rattle.model.proofs.Refusals.{settled-rest, rest-settled, unsettled-first}
 use Rattle.propagation_laws.proofs.Ranges.{in-range}
@@ -64,13 +64,22 @@ module _ (m : Model) (s : Whole m) (words values : List ℕ) where
             abbrev pub outputs : List ℕ
             outputs = valuesOf (eachPair (outputValues (m .n)) (take (m .s) (m .groups)) (take (m .s) words))
 
-            whole-is : valuesOf (assignmentFor m (take (m .s) words)) ≡ variables ++ outputs
-            unfolding assignmentFor tableOf
-            whole-is =
-                values-append (eachPair (variableValues (m .n)) (take (m .s) (m .groups)) (take (m .s) words))
-                (eachPair (outputValues (m .n)) (take (m .s) (m .groups)) (take (m .s) words))
+            abbrev pub differences : List ℕ
+            differences = valuesOf (each (differenceValues (m .n) (take (m .s) (m .groups)) (take (m .s) words)) (take (m .c) (m .constraints)))
 
-            pub all-length : length variables + length outputs ≡ length values
+            whole-is : valuesOf (assignmentFor m (take (m .s) words)) ≡ (variables ++ outputs) ++ differences
+            unfolding assignmentFor tableOf constraintsOf
+            whole-is =
+                let o = eachPair (outputValues (m .n)) (take (m .s) (m .groups)) (take (m .s) words) in
+                let x = each (differenceValues (m .n) (take (m .s) (m .groups)) (take (m .s) words)) (take (m .c) (m .constraints)) in
+                values-append (eachPair (variableValues (m .n)) (take (m .s) (m .groups)) (take (m .s) words)) (o ++ x)
+                ∙ ap (λ (l : List ℕ). variables ++ l) (values-append o x)
+                ∙ sym (append-assoc variables outputs differences)
+
+            parts-length : length ((variables ++ outputs) ++ differences) ≡ length variables + length outputs + length differences
+            parts-length = length-append (variables ++ outputs) differences ∙ ap (λ (k : ℕ). k + length differences) (length-append variables outputs)
+
+            pub all-length : length variables + length outputs + length differences ≡ length values
             all-length =
                 let i = in-range m (settled .0) in
                 let q : Settled m = record {
@@ -78,20 +87,20 @@ module _ (m : Model) (s : Whole m) (words values : List ℕ) where
                   fixpoint = settled .1;
                   sized = record { groups = omega (arith, i .groupCount, s .groups); constraints = omega (arith, i .constraintCount, s .constraints) };
                 } in
-                sym (length-append variables outputs) ∙ sym (ap length whole-is) ∙ values-count (assignmentFor m (take (m .s) words))
+                sym parts-length ∙ sym (ap length whole-is) ∙ values-count (assignmentFor m (take (m .s) words))
                 ∙ filled-length m q (take (m .s) words) (true-T (isSolution m (take (m .s) words)) (sym d ∙ y)) ∙ sym k ∙ sym l
 
-            pub fill-0 : {ys zs : List ℕ} {j r : ℕ} → Wrote variables 0 values ys j → Wrote outputs j ys zs r → Answer 0 zs
+            pub fill-0 : {ys zs us : List ℕ} {j k r : ℕ} → Wrote variables 0 values ys j → Wrote outputs j ys zs k → Wrote differences k zs us r → Answer 0 us
             unfolding filledValues
-            fill-0 p q =
+            fill-0 p q o =
                 let x : fillRefusal m words values ≡ 0 = own ∙ rw (← d, y, ← k, eq-eqb (length values) v l) in
-                let all = then p q in (
+                let text = (variables ++ outputs) ++ differences in
+                let all = then (then p q) o in (
                   sym x,
                   (
                     all .bytes
-                        ∙ ap (λ (t : List ℕ). (variables ++ outputs) ++ t)
-                        (drop-of-length-le values {i = 0 + length (variables ++ outputs)} (omega (arith, all-length, length-append variables outputs)))
-                        ∙ append-nil (variables ++ outputs)
+                        ∙ ap (λ (t : List ℕ). text ++ t) (drop-of-length-le values {i = 0 + length text} (omega (arith, all-length, parts-length)))
+                        ∙ append-nil text
                         ∙ sym (rw x whole-is),
                     round-trips m s,
                   ),

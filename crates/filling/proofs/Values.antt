@@ -7,19 +7,26 @@ use native.Mathlib.Omega.{arith}
 use native.Mathlib.Numerals.{add-one}
 use native.Mathlib.Decide.{le-ind}
 use borrow.Author.Tests.{eq-eqb, ne-eqb}
-use lib.Dec.{eqb, ltb}
+use lib.Bits.{bitAnd, bitOr}
+use lib.Dec.{T, eqb, ltb}
 use lib.ListN.{length, getD, take, drop, length-append, length-map, length-take, length-drop}
+use lib.Seq.{take-suc}
 use Rattle.model.specs.declared.Group.{Group}
+use Rattle.model.specs.declared.Constraint.{Constraint}
 use Rattle.model.specs.Lists.{those, each, eachPair, range}
-use Rattle.model.specs.Words.{bit, has}
+use Rattle.model.specs.Words.{less, bit, has}
 use Rattle.model.specs.Model.{zeroGroup}
 use Rattle.model.specs.Totalizer.{Shape, shape, leaves}
-use Rattle.model.specs.Cnf.{openOf, counted}
+use Rattle.model.specs.Clauses.{byEntrant}
+use Rattle.model.specs.Cnf.{openOf, counted, differing}
+use Rattle.model.specs.Solution.{setOf}
 use Rattle.model.specs.Close.{assignmentOf}
-use Rattle.model.specs.Fill.{count, unary, openValues, variableValues, treeValues, outputValues, valueOf, valuesOf}
-use Rattle.model.proofs.Lists.{range-length}
+use Rattle.model.specs.Fill.{count, unary, openValues, variableValues, treeValues, outputValues, oneOf, memberSet, differenceValues, valueOf, valuesOf}
+use Rattle.model.proofs.Lists.{range-length, each-append}
 use Rattle.encoding_laws.proofs.Row.{open-each}
 use Rattle.encoding_laws.proofs.Values.{values-count, values-append, values-assign}
+use Rattle.encoding_laws.proofs.Differences.{six-differing}
+use Rattle.encoding_laws.proofs.Whole.{no-values}
 use Rattle.encoding_laws.proofs.Totalizer.{leaves-shape, shape-one, shape-step}
 use Rattle.text.specs.Put.{Wrote}
 use Rattle.text.proofs.Writes.{kept, front, lent, lent-length}
@@ -33,20 +40,20 @@ values-each f (x ∷ xs) = values-append (f x) (each f xs) ∙ ap (λ (l : List 
 
 -- ---- the variables of a group, and the outputs of a node
 
-pub variables-are : (n : ℕ) (g : Group) (w : ℕ) → valuesOf (variableValues n g w) ≡ each (entrantValue (openOf g) w) (range 0 n)
+pub open-are : (n o w : ℕ) → valuesOf (openValues n o w) ≡ each (entrantValue o w) (range 0 n)
 unfolding entrantValue
-variables-are n g w =
-    ap valuesOf (open-each n (openOf g) w)
-    ∙ values-each (λ e. cond (has (openOf g) e) (has w e ∷ []) []) (range 0 n)
+open-are n o w =
+    ap valuesOf (open-each n o w)
+    ∙ values-each (λ e. cond (has o e) (has w e ∷ []) []) (range 0 n)
     ∙ same (range 0 n)
   where
     one : (a b : Bool) → valuesOf (cond a (b ∷ []) []) ≡ cond a (valueOf b ∷ []) []
     one true b = unfold valuesOf in refl
     one false b = unfold valuesOf in refl
 
-    same : (es : List ℕ) → each (λ e. valuesOf (cond (has (openOf g) e) (has w e ∷ []) [])) es ≡ each (λ e. cond (has (openOf g) e) (valueOf (has w e) ∷ []) []) es
+    same : (es : List ℕ) → each (λ e. valuesOf (cond (has o e) (has w e ∷ []) [])) es ≡ each (λ e. cond (has o e) (valueOf (has w e) ∷ []) []) es
     same [] = refl
-    same (e ∷ es) = ap₂ (λ (a b : List ℕ). a ++ b) (one (has (openOf g) e) (has w e)) (same es)
+    same (e ∷ es) = ap₂ (λ (a b : List ℕ). a ++ b) (one (has o e) (has w e)) (same es)
 
 -- an entrant that is open, and one that is not
 module _ (o w e : ℕ) where
@@ -216,3 +223,38 @@ module _ (f : Group → ℕ → List Bool) (groups : List Group) (words : List �
       le-ind {n = suc i} (λ (j : ℕ). j ≤ length groups → j ≤ length words → length (firstGroups i) + length (valuesOf (f (getD groups i zeroGroup) (getD words i 0))) ≤ length (firstGroups j))
       (λ p q. omega (arith, next-length i (omega arith) (omega arith)))
       (λ j hj ih p q. omega (arith, ih (omega arith) (omega arith), next-length j (omega arith) (omega arith))) s h p q
+
+-- ---- constraint after constraint
+
+module _ (n : ℕ) (t : List Group) (d : List ℕ) (c : Constraint) where
+  pub differences-none : T (byEntrant (c .code)) → valuesOf (differenceValues n t d c) ≡ []
+  unfolding differenceValues valuesOf
+  differences-none six =
+      let w = oneOf (memberSet d c 0) (memberSet d c 1) in
+      ap (λ (o : ℕ). valuesOf (openValues n o w)) (six-differing t c six) ∙ ap valuesOf (no-values n w)
+
+  pub differences-are : (o f g : ℕ) → o ≡ differing t c → f ≡ setOf d (getD (c .groups) 0 0) → g ≡ setOf d (getD (c .groups) 1 0)
+      → valuesOf (openValues n o (less (bitOr f g) (bitAnd f g))) ≡ valuesOf (differenceValues n t d c)
+  unfolding differenceValues oneOf
+  differences-are o f g q a b = rw (q, a, b)
+
+module _ (f : Constraint → List Bool) (cs : List Constraint) where
+  -- the values of the first j constraints
+  abbrev pub firstConstraints : ℕ → List ℕ
+  firstConstraints j = valuesOf (each f (take j cs))
+
+  pub constraints-next : (j : ℕ) (d : Constraint) → j < length cs → firstConstraints (j + 1) ≡ firstConstraints j ++ valuesOf (f (getD cs j d))
+  constraints-next j d h =
+      ap (λ l. valuesOf (each f l)) (ap (λ (i : ℕ). take i cs) (add-one j) ∙ take-suc cs j d h)
+      ∙ ap valuesOf (each-append f (take j cs) (getD cs j d ∷ []) ∙ ap (λ (l : List Bool). each f (take j cs) ++ l) (append-nil (f (getD cs j d))))
+      ∙ values-append (each f (take j cs)) (f (getD cs j d))
+
+  pub constraints-room : (j c : ℕ) (d : Constraint) → j < c → c ≤ length cs → length (firstConstraints j) + length (valuesOf (f (getD cs j d))) ≤ length (firstConstraints c)
+  constraints-room j c d h p =
+      le-ind {n = suc j} (λ (i : ℕ). i ≤ length cs → length (firstConstraints j) + length (valuesOf (f (getD cs j d))) ≤ length (firstConstraints i))
+      (λ p. omega (arith, next-size j (omega arith)))
+      (λ i hi ih p. omega (arith, ih (omega arith), next-size i (omega arith))) c h p
+    where
+      next-size : (i : ℕ) → i < length cs → length (firstConstraints (suc i)) ≡ length (firstConstraints i) + length (valuesOf (f (getD cs i d)))
+      next-size i l =
+          ap (λ (k : ℕ). length (firstConstraints k)) (sym (add-one i)) ∙ ap length (constraints-next i d l) ∙ length-append (firstConstraints i) (valuesOf (f (getD cs i d)))

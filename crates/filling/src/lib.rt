@@ -1,16 +1,16 @@
 // Filling: whether a word for each group is a draw of a settled model, and the values of its one satisfying assignment. The way back from closing.
-// A draw is judged on sets, a constraint's clauses for all entrants at once, and values are written in their order, the variables', then the outputs'.
+// A draw is judged on sets, a constraint's clauses for all entrants at once, and values are written in their order, the variables', the outputs', then the X of code 7.
 ghost use mathlib.Core.Path.{_≡_};
 ghost use Prim.Native.Nat.{_+_, _≤_, _<_};
 ghost use lib.Dec.{T};
 ghost use lib.ListN.{length, take};
-ghost use Rattle.model.specs.Lists.{every, pairwise, eachPair};
+ghost use Rattle.model.specs.Lists.{every, each, pairwise, eachPair};
 ghost use Rattle.model.specs.Limits.{limits};
 ghost use Rattle.model.specs.Words.{full};
 ghost use Rattle.model.specs.Model.{constraintSized, Whole, constraintInRange, inRange};
 ghost use Rattle.model.specs.Solution.{allowed, constraintTrue, isSolution};
 ghost use Rattle.model.specs.Close.{assignmentOf};
-ghost use Rattle.model.specs.Fill.{count, unary, variableValues, outputValues, valueOf, valuesOf, fillRefusal, filledValues};
+ghost use Rattle.model.specs.Fill.{count, unary, openValues, variableValues, outputValues, differenceValues, valueOf, valuesOf, fillRefusal, filledValues};
 ghost use Rattle.text.specs.Put.{Wrote};
 ghost use Rattle.correctness.specs.Filling.{RoundTrips};
 ghost use Rattle.filling.specs.Parts.{Small, entrantValue, treeOf};
@@ -59,6 +59,10 @@ fn constraint_true(words: [u64; Model::GROUPS], l: Constraint, n: u32, s: u32, a
     ensures { λ r. ⌜ r ≡ constraintTrue (take s words) l ⌝ }
 {
     let ids = l.groups;
+    if l.code == 7 {
+        return constraint_clauses::set_of(words, ids[0])
+            != constraint_clauses::set_of(words, ids[1]);
+    }
     constraint_clauses::constraint_holds(words, ids, all, l.code, l.count)
 }
 
@@ -124,13 +128,12 @@ fn put_entrant(values: &mut [u8], at: usize, free: u64, w: u64, e: u32) -> usize
     at
 }
 
-// The variables of a group whose entrants are w.
-fn put_variables(values: &mut [u8], at: usize, g: Group, w: u64, n: u32) -> usize
+// Of the entrants `free`, whether w has them.
+fn put_open(values: &mut [u8], at: usize, free: u64, w: u64, n: u32) -> usize
     requires { ⌜ n ≤ limits .entrants ⌝ }
-    requires { ⌜ at + length (valuesOf (variableValues n g w)) ≤ length (now values) ⌝ }
-    ensures { λ r. ⌜ Wrote (valuesOf (variableValues n g w)) at (now (values .entry)) (now (values .exit)) r ⌝ }
+    requires { ⌜ at + length (valuesOf (openValues n free w)) ≤ length (now values) ⌝ }
+    ensures { λ r. ⌜ Wrote (valuesOf (openValues n free w)) at (now (values .entry)) (now (values .exit)) r ⌝ }
 {
-    let free = g.possible ^ (g.possible & g.fixed);
     let mut k = at;
     let mut e: u32 = 0;
     while e < n {
@@ -139,6 +142,15 @@ fn put_variables(values: &mut [u8], at: usize, g: Group, w: u64, n: u32) -> usiz
         e += 1;
     }
     k
+}
+
+// The variables of a group whose entrants are w.
+fn put_variables(values: &mut [u8], at: usize, g: Group, w: u64, n: u32) -> usize
+    requires { ⌜ n ≤ limits .entrants ⌝ }
+    requires { ⌜ at + length (valuesOf (variableValues n g w)) ≤ length (now values) ⌝ }
+    ensures { λ r. ⌜ Wrote (valuesOf (variableValues n g w)) at (now (values .entry)) (now (values .exit)) r ⌝ }
+{
+    put_open(values, at, g.possible ^ (g.possible & g.fixed), w, n)
 }
 
 // How many values are true.
@@ -248,6 +260,60 @@ fn put_all_totalizers(
     k
 }
 
+// ---- of all constraints
+
+// The X of a constraint: those of the entrants in just one of its two groups are true.
+fn put_differences(
+    values: &mut [u8],
+    at: usize,
+    groups: [Group; Model::GROUPS],
+    words: [u64; Model::GROUPS],
+    s: usize,
+    c: Constraint,
+    n: u32,
+) -> usize
+    requires { ⌜ (n ≤ limits .entrants) × T (constraintInRange s c) × T (constraintSized c) ⌝ }
+    requires { ⌜ at + length (valuesOf (differenceValues n (take s groups) (take s words) c)) ≤ length (now values) ⌝ }
+    ensures { λ r. ⌜ Wrote (valuesOf (differenceValues n (take s groups) (take s words) c)) at (now (values .entry)) (now (values .exit)) r ⌝ }
+{
+    if c.code != 7 {
+        return at;
+    }
+    let ids = c.groups;
+    let free = difference::differing(groups, s, c);
+    let f = constraint_clauses::set_of(words, ids[0]);
+    let g = constraint_clauses::set_of(words, ids[1]);
+    let either = f | g;
+    let both = f & g;
+    put_open(values, at, free, either ^ (either & both), n)
+}
+
+fn put_all_differences(
+    values: &mut [u8],
+    at: usize,
+    groups: [Group; Model::GROUPS],
+    words: [u64; Model::GROUPS],
+    s: usize,
+    constraints: [Constraint; Model::CONSTRAINTS],
+    c: usize,
+    n: u32,
+) -> usize
+    requires { ⌜ (n ≤ limits .entrants) × (c ≤ limits .constraints) ⌝ }
+    requires { ⌜ T (every (constraintInRange s) (take c constraints)) × T (every constraintSized constraints) ⌝ }
+    requires { ⌜ at + length (valuesOf (each (differenceValues n (take s groups) (take s words)) (take c constraints))) ≤ length (now values) ⌝ }
+    ensures { λ r. ⌜ Wrote (valuesOf (each (differenceValues n (take s groups) (take s words)) (take c constraints))) at (now (values .entry)) (now (values .exit)) r ⌝ }
+{
+    let mut k = at;
+    let mut j: usize = 0;
+    while j < c {
+        let l = constraints[j];
+        let i = put_differences(values, k, groups, words, s, l, n);
+        k = i;
+        j += 1;
+    }
+    k
+}
+
 // The values of the one satisfying assignment that reads back as the words of groups 1 to s; or refusal 20, 22, 30 or 26, and then no value changes.
 // With closing it goes there and back: `RoundTrips`.
 pub fn fill(m: Model, words: [u64; Model::GROUPS], values: &mut [u8]) -> u32
@@ -270,6 +336,16 @@ pub fn fill(m: Model, words: [u64; Model::GROUPS], values: &mut [u8]) -> u32
         return 26;
     }
     let k = put_all_variables(values, groups, words, m.n, m.s as usize);
-    put_all_totalizers(values, k, groups, words, m.n, m.s as usize);
+    let j = put_all_totalizers(values, k, groups, words, m.n, m.s as usize);
+    put_all_differences(
+        values,
+        j,
+        groups,
+        words,
+        m.s as usize,
+        constraints,
+        m.c as usize,
+        m.n,
+    );
     0
 }

@@ -1,8 +1,10 @@
--- The codes whose clauses are entrant by entrant, one by one; the number of a code's groups, and the members of its clauses. Assumes nothing.
+-- The codes one by one: those whose clauses are entrant by entrant, and code 7; the number of a code's groups, and the members of its clauses. Assumes
+-- nothing.
 use mathlib.Core.Path.{_≡_, refl}
+use mathlib.Core.Logic.{_⊎_, inl, inr}
 use Prim.Native.Nat.{ℕ, zero, suc, _+_, _-_, _≤_, _<_}
 use native.Mathlib.Omega.{arith}
-use mathlib.Core.Bool.{not, _||_}
+use mathlib.Core.Bool.{false, not, _||_}
 use mathlib.Core.List.{List, [], _∷_, _++_, map}
 use lib.Dec.{T, leb, eqb, leb→le}
 use lib.ListN.{length, length-map}
@@ -27,36 +29,58 @@ by-code P a b c d e f (suc (suc (suc (suc (suc (suc (suc m))))))) t =
     let code = suc (suc (suc (suc (suc (suc (suc m)))))) in
     absurd (let h = leb→le code 6 (and-right (leb 1 code) (leb code 6) t) in omega arith)
 
+-- and code 7 beside them
+pub by-seven : (P : ℕ → Type 0) → ((code : ℕ) → T (byEntrant code) → P code) → P 7 → (code : ℕ) → T (between 1 7 code) → P code
+by-seven P f g zero t = absurd t
+by-seven P f g (suc zero) t = f 1 tt
+by-seven P f g (suc (suc zero)) t = f 2 tt
+by-seven P f g (suc (suc (suc zero))) t = f 3 tt
+by-seven P f g (suc (suc (suc (suc zero)))) t = f 4 tt
+by-seven P f g (suc (suc (suc (suc (suc zero))))) t = f 5 tt
+by-seven P f g (suc (suc (suc (suc (suc (suc zero)))))) t = f 6 tt
+by-seven P f g (suc (suc (suc (suc (suc (suc (suc zero))))))) t = g
+by-seven P f g (suc (suc (suc (suc (suc (suc (suc (suc m)))))))) t =
+    let code = suc (suc (suc (suc (suc (suc (suc (suc m))))))) in
+    absurd (let h = leb→le code 7 (and-right (leb 1 code) (leb code 7) t) in omega arith)
+
+pub not-seven : (code : ℕ) → T (byEntrant code) → eqb code 7 ≡ false
+not-seven = by-code (λ code. eqb code 7 ≡ false) refl refl refl refl refl refl
+
 -- ---- a code and its count in range
 
 module _ (code k : ℕ) (r : T (codeInRange code k)) where
-  pub by-entrant : T (byEntrant code)
+  pub is-code : T (between 1 7 code)
   unfolding codeInRange
-  by-entrant = and-left (byEntrant code) (not (eqb code 6) || between 2 (limits .members - 1) k) r
+  is-code = and-left (between 1 7 code) (not (eqb code 6) || between 2 (limits .members - 1) k) r
+
+  pub entrant-or-seven : T (byEntrant code) ⊎ (code ≡ 7)
+  entrant-or-seven = by-seven (λ code. T (byEntrant code) ⊎ (code ≡ 7)) (λ code t. inl t) (inr refl) code is-code
 
   -- "a count k (2 to 16)" where the code is 6
   pub count-in : code ≡ 6 → k ≤ limits .members - 1
   unfolding codeInRange
   count-in e =
-      let h = and-right (byEntrant code) (not (eqb code 6) || between 2 (limits .members - 1) k) r in
+      let h = and-right (between 1 7 code) (not (eqb code 6) || between 2 (limits .members - 1) k) r in
       between-le 2 (limits .members - 1) k (rw e at h) .1
 
   -- at most as many groups as a constraint may have
   pub member-bound : memberCount code k ≤ limits .members
   unfolding memberCount
   member-bound =
-      by-code (λ code. (code ≡ 6 → k ≤ limits .members - 1) → memberCount code k ≤ limits .members)
-      (λ h. omega arith) (λ h. omega arith) (λ h. omega arith) (λ h. omega arith) (λ h. omega arith) (λ h. let l = h refl in omega arith)
-      code by-entrant count-in
+      let P : ℕ → Type 0 = λ code. (code ≡ 6 → k ≤ limits .members - 1) → memberCount code k ≤ limits .members in
+      by-seven P
+      (by-code P (λ h. omega arith) (λ h. omega arith) (λ h. omega arith) (λ h. omega arith) (λ h. omega arith) (λ h. let l = h refl in omega arith))
+      (λ h. omega arith) code is-code count-in
 
   -- and as many clauses
   pub clause-bound : length (memberClauses code k) ≤ limits .members
   unfolding memberClauses shortClauses unionClauses
   clause-bound =
-      by-code (λ code. (code ≡ 6 → k ≤ limits .members - 1) → length (memberClauses code k) ≤ limits .members)
-      (λ h. omega arith) (λ h. omega arith) (λ h. omega arith) (λ h. omega arith) (λ h. omega arith)
-      (λ h. let l = h refl in omega (arith, length-map {B = List Literal} (range 1 k) (λ i. Neg i ∷ Pos 0 ∷ []), range-length 1 k))
-      code by-entrant count-in
+      let P : ℕ → Type 0 = λ code. (code ≡ 6 → k ≤ limits .members - 1) → length (memberClauses code k) ≤ limits .members in
+      by-seven P
+      (by-code P (λ h. omega arith) (λ h. omega arith) (λ h. omega arith) (λ h. omega arith) (λ h. omega arith)
+      (λ h. let l = h refl in omega (arith, length-map {B = List Literal} (range 1 k) (λ i. Neg i ∷ Pos 0 ∷ []), range-length 1 k)))
+      (λ h. omega arith) code is-code count-in
 
 -- ---- the members that a clause speaks of
 

@@ -1,10 +1,11 @@
 -- The starred examples A to I of document 01, as request 1 has them, proved together as one table over the definitions; the limits of each code,
--- fillings, the printed steps of a node, the published DIMACS samples, blank marks and two committees' sheets beside them. Assumes nothing.
+-- fillings, the printed steps of a node, the published DIMACS samples, blank marks, two committees' sheets and groups that must not be the same beside
+-- them. Assumes nothing.
 use mathlib.Core.Path.{_≡_, refl}
 use Prim.Native.Nat.{ℕ, _-_}
 use Prim.Native.Char.{code}
 use Prim.Native.String.{String, [] as ε, _∷_ as _◁_}
-use mathlib.Core.Bool.{Bool, false, _&&_}
+use mathlib.Core.Bool.{Bool, false, not, _&&_}
 use mathlib.Core.List.{List, [], _∷_, _++_, map, List·Memᴰ, List·Memᴰ·not-nil}
 use mathlib.Core.Option.{Option, none, some}
 use lib.Dec.{T, leb, eqb, leb→le}
@@ -16,7 +17,7 @@ use Rattle.model.specs.declared.Node.{Node}
 use Rattle.model.specs.declared.Constraint.{Constraint}
 use Rattle.model.specs.declared.Model.{Model}
 use Rattle.model.specs.declared.Closed.{Closed}
-use Rattle.model.specs.Lists.{every, each, pairwise, range}
+use Rattle.model.specs.Lists.{every, those, each, pairwise, range}
 use Rattle.model.specs.Model.{zeroConstraint, tableOf, inRange}
 use Rattle.model.specs.Sheet.{readSheet}
 use Rattle.model.specs.Propagate.{propagated, sameTable, isFixpoint}
@@ -26,8 +27,8 @@ use Rattle.model.specs.Text.{fieldText, headerText, blockText, listing, 
 use Rattle.model.specs.SheetText.{sheetText}
 use Rattle.model.specs.Dimacs.{Formula, readDimacs}
 use Rattle.model.specs.Assignment.{lineRead, valuesAfter}
-use Rattle.model.specs.Close.{closed}
-use Rattle.model.specs.Solution.{isSolution, solutions}
+use Rattle.model.specs.Close.{satisfying, assignmentOf, closed}
+use Rattle.model.specs.Solution.{isSolution, allTables, solutions}
 use Rattle.model.specs.Fill.{fillRefusal, filledValues}
 use Rattle.model.specs.Combine.{combined}
 use Rattle.model.specs.Demand.{freshReading, isCandidate}
@@ -542,3 +543,137 @@ combineTable = bothWays && cleanLine && eachRefused && inOrder
 pub combinings : T combineTable
 unfolding defs bytes same modelOf writesAs combinesAs noSheet men ladies bothWays withLines cleanLine plain three twice bars fixes more fewer refusedAs eachRefused clashing inOrder combineTable
 combinings = tt
+
+-- ---- groups that must not be the same (request 6): X in the listing, and what filling and closing give for it
+
+listsAs : String → String → Bool
+listsAs s text = same (listing (settled s)) (bytes text)
+
+-- as many solutions as satisfying assignments, k of each
+matching : ℕ → String → Bool
+matching k s =
+    let m = settled s in
+    eqb (length (solutions (modelOf s))) k
+    && eqb (length (those (λ a. satisfying m (assignmentOf a)) (allTables (variableCount m) 2))) k
+
+-- entrant 1 is open in both groups, 2 in the first, 3 in neither; the first group's counter has the outputs 4 and 5, so X are 6 and 7
+teams : String
+teams = "   1   3   2   1\n   2   1   0   2   1   1   2\n   2   2   0   3   1   0   2\n   3   7   1   2\n"
+
+afterOutputs : Bool
+afterOutputs =
+    let m = settled teams in
+    settlesIn 2 teams
+    && listsAs teams "p cnf 7 14\n1 2 -4 0\n-2 4 0\n1 -5 0\n-1 4 0\n2 -5 0\n-1 -2 5 0\n-5 0\n-1 -3 -6 0\n1 3 -6 0\n-1 3 6 0\n1 -3 6 0\n2 -7 0\n-2 7 0\n6 7 0\n"
+    && same (blockText m 3) (bytes "-1 -3 -6 0\n1 3 -6 0\n-1 3 6 0\n1 -3 6 0\n2 -7 0\n-2 7 0\n6 7 0\n")
+    && every (λ b. eqb (blockRefusal m b 32768) 0) (range 0 4)
+    && writesAs (modelOf teams) teams
+
+-- its four solutions filled; groups alike are none; read back, and with X of entrant 1 the other way or a team twice refused
+teamsFilled : Bool
+teamsFilled =
+    let m = settled teams in
+    matching 4 teams
+    && fillsAs m (4 ∷ 5 ∷ []) 7 0 (2 ∷ 2 ∷ 1 ∷ 2 ∷ 2 ∷ 1 ∷ 2 ∷ [])
+    && fillsAs m (5 ∷ 4 ∷ []) 7 0 (1 ∷ 2 ∷ 2 ∷ 1 ∷ 2 ∷ 1 ∷ 2 ∷ [])
+    && fillsAs m (6 ∷ 4 ∷ []) 7 0 (2 ∷ 1 ∷ 2 ∷ 1 ∷ 2 ∷ 2 ∷ 1 ∷ [])
+    && fillsAs m (6 ∷ 5 ∷ []) 7 0 (2 ∷ 1 ∷ 1 ∷ 1 ∷ 2 ∷ 1 ∷ 1 ∷ [])
+    && fillsAs m (5 ∷ 5 ∷ []) 7 30 (replicate 7 7) && fillsAs m (6 ∷ 5 ∷ []) 5 26 (replicate 5 7)
+    && closesAs m "v -1 2 3 4 -5 6 7 0" 0 (6 ∷ 5 ∷ []) && closesAs m "v -1 2 3 4 -5 -6 7 0" 28 [] && closesAs m "v 1 -2 3 4 -5 -6 -7 0" 28 []
+
+-- two lines of code 7 and one of code 2 between them: X 13 and 14, then 15 and 16
+lineByLine : String
+lineByLine = "   1   2   3   3\n   2   1   1   1   1   1\n   2   2   1   1   1   1\n   2   3   0   2   1   1\n   3   7   1   2\n   3   2   1   3\n   3   7   3   2\n"
+
+numberedByLine : Bool
+numberedByLine =
+    settlesIn 2 lineByLine
+    && listsAs lineByLine "p cnf 16 43\n1 2 -7 0\n-2 7 0\n1 -8 0\n-1 7 0\n2 -8 0\n-1 -2 8 0\n7 0\n-8 0\n3 4 -9 0\n-4 9 0\n3 -10 0\n-3 9 0\n4 -10 0\n-3 -4 10 0\n9 0\n-10 0\n5 6 -11 0\n-6 11 0\n5 -12 0\n-5 11 0\n6 -12 0\n-5 -6 12 0\n11 0\n-1 -3 -13 0\n1 3 -13 0\n-1 3 13 0\n1 -3 13 0\n-2 -4 -14 0\n2 4 -14 0\n-2 4 14 0\n2 -4 14 0\n13 14 0\n-1 5 0\n-2 6 0\n-5 -3 -15 0\n5 3 -15 0\n-5 3 15 0\n5 -3 15 0\n-6 -4 -16 0\n6 4 -16 0\n-6 4 16 0\n6 -4 16 0\n15 16 0\n"
+    && eqb (length (solutions (modelOf lineByLine))) 4
+    && fillsAs (settled lineByLine) (1 ∷ 2 ∷ 3 ∷ []) 16 0 (1 ∷ 2 ∷ 2 ∷ 1 ∷ 1 ∷ 1 ∷ 1 ∷ 2 ∷ 1 ∷ 2 ∷ 1 ∷ 1 ∷ 1 ∷ 1 ∷ 1 ∷ 2 ∷ [])
+
+-- an entrant who differs already: no X and no clause, either way round; and between two lines that have X, 7 and 8, then 9 and 10
+apartAlready : Bool
+apartAlready =
+    settlesIn 2 first && listsAs first "p cnf 2 0\n" && matching 4 first
+    && settlesIn 2 second && listsAs second "p cnf 2 0\n" && matching 4 second
+    && settlesIn 2 between
+    && listsAs between "p cnf 10 22\n3 4 -5 0\n-4 5 0\n3 -6 0\n-3 5 0\n4 -6 0\n-3 -4 6 0\n5 0\n-6 0\n-1 -3 -7 0\n1 3 -7 0\n-1 3 7 0\n1 -3 7 0\n-4 -8 0\n4 8 0\n7 8 0\n-3 -2 -9 0\n3 2 -9 0\n-3 2 9 0\n3 -2 9 0\n4 -10 0\n-4 10 0\n9 10 0\n"
+    && fillsAs (settled between) (3 ∷ 1 ∷ 2 ∷ []) 10 0 (1 ∷ 1 ∷ 2 ∷ 1 ∷ 1 ∷ 2 ∷ 1 ∷ 2 ∷ 1 ∷ 1 ∷ [])
+  where
+    first : String
+    first = "   1   2   2   1\n   2   1   0   2   2   1\n   2   2   0   2   0   1\n   3   7   1   2\n"
+
+    second : String
+    second = "   1   2   2   1\n   2   1   0   2   2   1\n   2   2   0   2   0   1\n   3   7   2   1\n"
+
+    between : String
+    between = "   1   2   3   3\n   2   1   0   2   1   2\n   2   2   0   2   1   0\n   2   3   1   1   1   1\n   3   7   1   3\n   3   7   1   2\n   3   7   3   2\n"
+
+pub differenceTable : Bool
+differenceTable = afterOutputs && teamsFilled && numberedByLine && apartAlready
+
+pub differences : T differenceTable
+unfolding defs bytes same modelOf settled settlesIn closing closesAs fillsAs writesAs listsAs matching teams afterOutputs teamsFilled lineByLine numberedByLine apartAlready differenceTable
+differences = tt
+
+-- ---- the same, settled: where the rule acts and where not, 21, and what a line of code 7 is refused for
+
+-- the settled sets and limits, and the passes
+settlesWith : ℕ → String → List ℕ → List ℕ → List ℕ → List ℕ → Bool
+settlesWith p s fixed possible low high = settlesIn p s && settlesAs s fixed possible && limitsAs s low high
+
+-- entrant 1 is fixed in both groups and 2 barred in both; 3 is fixed in the first and hence barred in the second, then barred and hence fixed
+oppositeWay : Bool
+oppositeWay =
+    settlesWith 3 "   1   3   2   1\n   2   1   0   3   2   0   2\n   2   2   0   3   2   0   1\n   3   7   1   2\n" (5 ∷ 1 ∷ []) (5 ∷ 1 ∷ []) (2 ∷ 1 ∷ []) (2 ∷ 1 ∷ [])
+    && settlesWith 3 "   1   3   2   1\n   2   1   0   3   2   0   2\n   2   2   0   3   2   0   1\n   3   7   2   1\n" (5 ∷ 1 ∷ []) (5 ∷ 1 ∷ []) (2 ∷ 1 ∷ []) (2 ∷ 1 ∷ [])
+    && settlesWith 3 "   1   3   2   1\n   2   1   0   3   2   0   0\n   2   2   0   3   2   0   1\n   3   7   1   2\n" (1 ∷ 5 ∷ []) (1 ∷ 5 ∷ []) (1 ∷ 2 ∷ []) (1 ∷ 2 ∷ [])
+    && settlesWith 3 "   1   3   2   1\n   2   1   0   3   2   0   0\n   2   2   0   3   2   0   1\n   3   7   2   1\n" (1 ∷ 5 ∷ []) (1 ∷ 5 ∷ []) (1 ∷ 2 ∷ []) (1 ∷ 2 ∷ [])
+
+-- the rule does not act: 1 is fixed in the first group, and 2 is open in both, fixed in the first, barred there; or the one who is left is open in both
+notYet : Bool
+notYet =
+    settlesWith 2 "   1   2   2   1\n   2   1   0   2   2   1\n   2   2   0   2   1   1\n   3   7   1   2\n" (1 ∷ 0 ∷ []) (3 ∷ 3 ∷ []) (1 ∷ 0 ∷ []) (2 ∷ 2 ∷ [])
+    && settlesWith 2 "   1   2   2   1\n   2   1   0   2   2   2\n   2   2   0   2   1   1\n   3   7   1   2\n" (3 ∷ 0 ∷ []) (3 ∷ 3 ∷ []) (2 ∷ 0 ∷ []) (2 ∷ 2 ∷ [])
+    && settlesWith 2 "   1   2   2   1\n   2   1   0   2   2   0\n   2   2   0   2   1   1\n   3   7   1   2\n" (1 ∷ 0 ∷ []) (1 ∷ 3 ∷ []) (1 ∷ 0 ∷ []) (1 ∷ 2 ∷ [])
+    && settlesWith 2 oneLeft (1 ∷ 1 ∷ []) (3 ∷ 3 ∷ []) (1 ∷ 1 ∷ []) (2 ∷ 2 ∷ [])
+    && listsAs oneLeft "p cnf 3 5\n-1 -2 -3 0\n1 2 -3 0\n-1 2 3 0\n1 -2 3 0\n3 0\n" && matching 2 oneLeft
+  where
+    oneLeft : String
+    oneLeft = "   1   2   2   1\n   2   1   0   2   2   1\n   2   2   0   2   2   1\n   3   7   1   2\n"
+
+-- all settled alike: without the line the table is settled as it stands; with it 21, no candidate, and 22 for a block, closing and filling
+alike : String
+alike = "   1   2   2   1\n   2   1   1   1   2   0\n   2   2   1   1   2   0\n   3   7   1   2\n"
+
+allAlike : Bool
+allAlike =
+    let m = modelOf alike in
+    settlesIn 1 "   1   2   2   0\n   2   1   1   1   2   0\n   2   2   1   1   2   0\n"
+    && isRefused 21 alike && not (isFixpoint m) && not (isCandidate m (tableOf m))
+    && eqb (blockRefusal m 0 32768) 22 && closesAs m "v 0" 22 [] && fillsAs m (1 ∷ 1 ∷ []) 0 22 []
+
+-- alike after a pass: by the group rule; by a line of code 1 before it; and after it, where 2 is barred first and then fixed
+alikeLater : Bool
+alikeLater =
+    isRefused 21 "   1   2   2   1\n   2   1   1   1   2   1\n   2   2   1   1   2   0\n   3   7   1   2\n"
+    && isRefused 21 "   1   2   2   2\n   2   1   0   2   2   2\n   2   2   0   2   2   1\n   3   1   1   2\n   3   7   1   2\n"
+    && isRefused 21 "   1   2   2   2\n   2   1   0   2   2   2\n   2   2   0   2   2   1\n   3   7   1   2\n   3   1   1   2\n"
+
+-- code 7 has two groups, 1 to s, not the same; there is no code 8
+codeSeven : Bool
+codeSeven =
+    readsAs (headA ∷ firstA ∷ secondA ∷ "   3   7   2   1\n" ∷ []) 0 0
+    && readsAs (headA ∷ firstA ∷ secondA ∷ "   3   7   1\n" ∷ []) 6 4
+    && readsAs (headA ∷ firstA ∷ secondA ∷ "   3   7   1   2   3\n" ∷ []) 6 4
+    && readsAs (headA ∷ firstA ∷ secondA ∷ "   3   8   1   2\n" ∷ []) 6 4
+    && readsAs (headA ∷ firstA ∷ secondA ∷ "   3   7   1   3\n" ∷ []) 7 4
+    && readsAs (headA ∷ firstA ∷ secondA ∷ "   3   7   1   1\n" ∷ []) 9 4
+
+pub oppositeTable : Bool
+oppositeTable = allAlike && alikeLater && notYet && oppositeWay && codeSeven
+
+pub opposites : T oppositeTable
+unfolding defs bytes same modelOf settled settlesIn isRefused closing closesAs settlesAs limitsAs fillsAs readsAs headA firstA secondA listsAs matching settlesWith oppositeWay notYet alike allAlike alikeLater codeSeven oppositeTable
+opposites = tt

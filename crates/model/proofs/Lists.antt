@@ -520,6 +520,12 @@ pub any-all-ext : {A : Type 0} (p q : A → Bool) (xs : List A) → All (λ x. p
 any-all-ext p q [] h = refl
 any-all-ext p q (x ∷ xs) h = ap₂ _||_ (h .0) (any-all-ext p q xs (h .1))
 
+-- an element that is there, whatever stands for a missing one
+pub getD-other : {A : Type 0} (xs : List A) (i : ℕ) (d e : A) → i < length xs → getD xs i d ≡ getD xs i e
+getD-other [] i d e h = absurd (omega arith)
+getD-other (x ∷ xs) zero d e h = refl
+getD-other (x ∷ xs) (suc i) d e h = getD-other xs i d e (omega arith)
+
 pub getD-map-in : {A B : Type 0} (f : A → B) (xs : List A) (i : ℕ) (d : A) (e : B) → i < length xs → getD (map f xs) i e ≡ f (getD xs i d)
 getD-map-in f [] i d e h = absurd (omega arith)
 getD-map-in f (x ∷ xs) zero d e h = refl

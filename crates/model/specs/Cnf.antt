@@ -1,8 +1,9 @@
 -- The clauses of the listing, block by block: numbering, totalizers, constraints, V and C.
 use Prim.Native.Nat.{ℕ, _+_, _-_, _%_, _^_}
-use mathlib.Core.Bool.{Bool, cond, _||_}
-use mathlib.Core.List.{List, [], map}
-use lib.Dec.{leb, ltb}
+use mathlib.Core.Bool.{Bool, cond, not, _&&_, _||_}
+use mathlib.Core.List.{List, [], _++_, map}
+use lib.Dec.{leb, ltb, eqb}
+use lib.Bits.{bitOr}
 use lib.ListN.{length, getD, take}
 use Rattle.model.specs.declared.Literal.{Literal}
 use Rattle.model.specs.declared.Literal.the-variants.{Pos, Neg}
@@ -13,8 +14,9 @@ use Rattle.model.specs.declared.Constraint.{Constraint}
 use Rattle.model.specs.declared.Model.{Model}
 use Rattle.model.specs.Lists.{each, total, range}
 use Rattle.model.specs.Words.{less, size, has}
-use Rattle.model.specs.Clauses.{clausesOf}
-use Rattle.model.specs.Model.{zeroConstraint, groupAt, tableOf, constraintsOf}
+use Rattle.model.specs.Clauses.{isDifference, memberClauses}
+use Rattle.model.specs.Model.{zeroConstraint, groupAt, memberAt, tableOf, constraintsOf}
+use Rattle.model.specs.Difference.{isApart}
 use Rattle.model.specs.Totalizer.{oppositeTerm, keep, totalizerClauses, treeClauseCount, treeOutputCount}
 
 -- ---- "A counter exists for a group with m open entrants, L = low less the fixed, U = high less the fixed, exactly when L > 0 or U < m."
@@ -51,12 +53,32 @@ firstOutput t g = 1 + total openCount t + total outputsOf (take (g - 1) t)
 unfoldable pub variableOf : List Group → ℕ → ℕ → ℕ
 variableOf t g e = firstVariable t g + size (openOf (groupAt t g) % 2 ^ e)
 
--- "V is the number of open marks plus A(m) per counter.": those of a table, and of a model
+-- "the number of open marks plus A(m) per counter"
 unfoldable pub tableVariables : List Group → ℕ
 tableVariables t = total openCount t + total outputsOf t
 
+-- ---- request 6: "Each entrant open in at least one of the two groups gets a variable X, numbered after all counters by line and then by entrant."
+
+unfoldable pub eitherOpen : Group → Group → ℕ
+eitherOpen f g = bitOr (openOf f) (openOf g)
+
+-- "Where a settled entrant already differs, the line has no variables and no clauses.": a constraint that has them, and the entrants of its variables
+unfoldable pub isOpenDifference : List Group → Constraint → Bool
+isOpenDifference t c = isDifference c && not (isApart t c)
+
+unfoldable pub differing : List Group → Constraint → ℕ
+differing t c = cond (isOpenDifference t c) (eitherOpen (memberAt t c 0) (memberAt t c 1)) 0
+
+unfoldable pub differenceCount : List Group → Constraint → ℕ
+differenceCount t c = size (differing t c)
+
+-- the first X of constraint j, where the first of all is `base`
+unfoldable pub firstDifference : ℕ → Model → ℕ → ℕ
+firstDifference base m j = base + total (differenceCount (tableOf m)) (take (j - 1) (constraintsOf m))
+
+-- "V is the number of open marks plus A(m) per counter", and the X
 unfoldable pub variableCount : Model → ℕ
-variableCount m = tableVariables (tableOf m)
+variableCount m = tableVariables (tableOf m) + total (differenceCount (tableOf m)) (constraintsOf m)
 
 -- ---- the clauses of a group's totalizer, "possibly empty"
 
@@ -73,22 +95,36 @@ membership t e g =
     cond (has (groupAt t g .fixed) e) Holds
     (cond (has (groupAt t g .possible) e) (Open (Pos (variableOf t g e))) Fails)
 
-unfoldable pub termOf : List Group → ℕ → Literal → Term
-termOf t e (Pos g) = membership t e g
-termOf t e (Neg g) = oppositeTerm (membership t e g)
+-- X of bit e, where the constraint's X are numbered from x on: false for an entrant who has none
+unfoldable pub difference : ℕ → List Group → Constraint → ℕ → Term
+difference x t c e = cond (has (differing t c) e) (Open (Pos (x + size (differing t c % 2 ^ e)))) Fails
 
-unfoldable pub clausesAt : List Group → Constraint → ℕ → List (List Literal)
-clausesAt t c e = each (λ ls. keep (map (termOf t e) ls)) (clausesOf c)
+-- member i of a constraint: a group, or X
+unfoldable pub constraintTerm : ℕ → List Group → Constraint → ℕ → ℕ → Term
+constraintTerm x t c e i = cond (isDifference c && eqb i 2) (difference x t c e) (membership t e (getD (c .groups) i 0))
 
-unfoldable pub constraintClauses : ℕ → List Group → Constraint → List (List Literal)
-constraintClauses n t c = each (clausesAt t c) (range 0 n)
+abbrev pub termOf : (ℕ → Term) → Literal → Term
+termOf f (Pos i) = f i
+termOf f (Neg i) = oppositeTerm (f i)
+
+unfoldable pub clausesAt : ℕ → List Group → Constraint → ℕ → List (List Literal)
+clausesAt x t c e =
+    cond (isApart t c) [] (each (λ ls. keep (map (termOf (constraintTerm x t c e)) ls)) (memberClauses (c .code) (c .count)))
+
+-- "The line's last clause holds all its X in rising order."
+unfoldable pub lastClause : ℕ → ℕ → List Group → Constraint → List (List Literal)
+lastClause n x t c = cond (isOpenDifference t c) (keep (map (difference x t c) (range 0 n))) []
+
+unfoldable pub constraintClauses : ℕ → List Group → ℕ → Constraint → List (List Literal)
+constraintClauses n t x c = each (clausesAt x t c) (range 0 n) ++ lastClause n x t c
 
 -- ---- "block g (1..s) is group g's counter ..; block s+j is line j"
 
 unfoldable pub blockClauses : Model → ℕ → List (List Literal)
 blockClauses m b =
     let t = tableOf m in
-    let constraint = constraintClauses (m .n) t (getD (constraintsOf m) (b - m .s - 1) zeroConstraint) in
+    let x = firstDifference (1 + tableVariables t) m (b - m .s) in
+    let constraint = constraintClauses (m .n) t x (getD (constraintsOf m) (b - m .s - 1) zeroConstraint) in
     let group = groupClauses t b in
     cond (leb b (m .s)) group constraint
 
@@ -100,11 +136,12 @@ blockCount m = m .s + m .c
 unfoldable pub clauses : Model → List (List Literal)
 clauses m = each (blockClauses m) (range 1 (blockCount m))
 
--- "C is, per counter, T(m) + L + m - U, plus the line clauses not left out, entrants 1..n."
+-- "C is, per counter, T(m) + L + m - U, plus the line clauses not left out, entrants 1..n", a code 7 line's last included. Their number is the same
+-- wherever the X are numbered from
 unfoldable pub groupClauseCount : Group → ℕ
 groupClauseCount g = cond (counted g) (treeClauseCount (openCount g) + atLeast g + (openCount g - atMost g)) 0
 
 unfoldable pub clauseCount : Model → ℕ
 clauseCount m =
     total groupClauseCount (tableOf m)
-    + total (λ c. length (constraintClauses (m .n) (tableOf m) c)) (constraintsOf m)
+    + total (λ c. length (constraintClauses (m .n) (tableOf m) 0 c)) (constraintsOf m)

@@ -15,6 +15,7 @@ use Rattle.model.specs.Lists.{every, any, pairwise, each, range, stop}
 use Rattle.model.specs.Words.{inside}
 use Rattle.model.specs.Model.{tableOf, constraintsOf}
 use Rattle.model.specs.Sheet.{linesOf, readSheet}
+use Rattle.model.specs.Difference.{mayDiffer}
 use Rattle.model.specs.Propagate.{rules, consistent, sameTable}
 use Rattle.model.specs.Cnf.{variableCount}
 use Rattle.model.specs.Assignment.{Said, formOf, saidBy, isPassedOver, variable, isSaid, lineRead, valuesAfter}
@@ -32,8 +33,9 @@ unfoldable pub within : List Group → List Group → Bool
 within a b = pairwise groupWithin a b
 
 -- "A table is unchanged when no rule changes it: neither the group rule on any group nor the line rule on any line."
+-- Request 6: "a table with such a line does not count as unchanged".
 unfoldable pub unchanged : Model → List Group → Bool
-unchanged m t = every (λ r. sameTable (r t) t) (rules (m .n) (m .s) (constraintsOf m))
+unchanged m t = every (λ r. sameTable (r t) t) (rules (m .n) (m .s) (constraintsOf m)) && every (mayDiffer t) (constraintsOf m)
 
 -- a table that demand 3 compares: consistent, unchanged, and within the sheet's
 unfoldable pub isCandidate : Model → List Group → Bool

@@ -4,16 +4,18 @@ use Prim.Native.Nat.{ℕ, suc, _+_}
 use mathlib.Core.Bool.{Bool, true, false, cond, not}
 use mathlib.Core.List.{List, [], _∷_, _++_, map}
 use lib.Dec.{ltb, eqb}
-use lib.ListN.{length, take, drop}
+use lib.Bits.{bitAnd, bitOr}
+use lib.ListN.{length, getD, take, drop}
 use Rattle.model.specs.declared.Group.{Group}
+use Rattle.model.specs.declared.Constraint.{Constraint}
 use Rattle.model.specs.declared.Model.{Model}
-use Rattle.model.specs.Lists.{those, eachPair, range, stop}
-use Rattle.model.specs.Words.{has}
-use Rattle.model.specs.Model.{tableOf}
+use Rattle.model.specs.Lists.{those, each, eachPair, range, stop}
+use Rattle.model.specs.Words.{less, has}
+use Rattle.model.specs.Model.{tableOf, constraintsOf}
 use Rattle.model.specs.Propagate.{unsettledOr}
 use Rattle.model.specs.Totalizer.{Shape, leaf, node, shape, leaves}
-use Rattle.model.specs.Cnf.{openOf, counted, variableCount}
-use Rattle.model.specs.Solution.{isSolution}
+use Rattle.model.specs.Cnf.{openOf, counted, differing, variableCount}
+use Rattle.model.specs.Solution.{setOf, isSolution}
 
 -- ---- variables: that of an open entrant is true where the entrant is in the group's set
 
@@ -46,10 +48,27 @@ treeValues (node l r) xs = treeValues l (take (leaves l) xs) ++ (treeValues r (d
 unfoldable pub outputValues : ℕ → Group → ℕ → List Bool
 outputValues n g w = let xs = variableValues n g w in cond (counted g) (treeValues (shape (length xs)) xs) []
 
--- ---- "Variables: for groups 1..s, entrants 1..n with mark 1, numbered on from 1. Then counters, groups in order."
+-- ---- request 6: X of an entrant is true where "in just one of them"
+
+-- the entrants in just one of two sets
+unfoldable pub oneOf : ℕ → ℕ → ℕ
+oneOf f g = less (bitOr f g) (bitAnd f g)
+
+-- the set of member i of a constraint
+abbrev pub memberSet : List ℕ → Constraint → ℕ → ℕ
+memberSet d c i = setOf d (getD (c .groups) i 0)
+
+-- the X of a constraint
+unfoldable pub differenceValues : ℕ → List Group → List ℕ → Constraint → List Bool
+differenceValues n t d c = openValues n (differing t c) (oneOf (memberSet d c 0) (memberSet d c 1))
+
+-- ---- "Variables: for groups 1..s, entrants 1..n with mark 1, numbered on from 1. Then counters, groups in order." Then the X, "after all counters by
+-- line and then by entrant"
 
 unfoldable pub assignmentFor : Model → List ℕ → List Bool
-assignmentFor m d = eachPair (variableValues (m .n)) (tableOf m) d ++ eachPair (outputValues (m .n)) (tableOf m) d
+assignmentFor m d =
+    eachPair (variableValues (m .n)) (tableOf m) d
+    ++ (eachPair (outputValues (m .n)) (tableOf m) d ++ each (differenceValues (m .n) (tableOf m) d) (constraintsOf m))
 
 -- the values of an assignment: "1 true, 2 false"
 abbrev pub valueOf : Bool → ℕ

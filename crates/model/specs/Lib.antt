@@ -5,6 +5,7 @@ pub mod Clauses
 pub mod Model
 pub mod Sheet
 pub mod LimitRules
+pub mod Difference
 pub mod Propagate
 pub mod Totalizer
 pub mod Cnf

@@ -2,7 +2,7 @@
 use Rattle.model.specs.declared.Limits.{Limits}
 
 -- "n (entrants, 1 to 32), s (groups, 1 to 256), c (constraint lines, 0 to 256)"; "H and k more", with k at most 16; "The longest sheet has
--- 57,873 bytes"; "32,768 bytes hold each block; V is at most 49,152". A set of entrants is a word of 64 bits
+-- 57,873 bytes"; "32,768 bytes hold each block"; by request 6 "V at most 57,344". A set of entrants is a word of 64 bits
 abbrev pub limits : Limits
 limits = record {
   word = 64;
@@ -12,5 +12,5 @@ limits = record {
   members = 17;
   sheet = 57873;
   block = 32768;
-  variables = 49152;
+  variables = 57344;
 }

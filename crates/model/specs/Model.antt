@@ -12,7 +12,7 @@ use Rattle.model.specs.declared.Model.{Model}
 use Rattle.model.specs.Lists.{every, between, distinct}
 use Rattle.model.specs.Words.{inside}
 use Rattle.model.specs.Limits.{limits}
-use Rattle.model.specs.Clauses.{byEntrant, groupsOf}
+use Rattle.model.specs.Clauses.{groupsOf}
 
 -- the all-zero model
 unfoldable pub zeroGroup : Group
@@ -41,6 +41,10 @@ constraintsOf m = take (m .c) (m .constraints)
 unfoldable pub groupAt : List Group → ℕ → Group
 groupAt t g = getD t (g - 1) zeroGroup
 
+-- the group that is member i of a constraint
+unfoldable pub memberAt : List Group → Constraint → ℕ → Group
+memberAt t c i = groupAt t (getD (c .groups) i 0)
+
 -- the model with another table; entries past s stay
 unfoldable pub withTable : Model → List Group → Model
 withTable m t = record { n = m .n; s = m .s; c = m .c; groups = t ++ drop (m .s) (m .groups); constraints = m .constraints }
@@ -67,9 +71,9 @@ unfoldable pub groupInRange : ℕ → Group → Bool
 groupInRange n g =
     inside (g .fixed) (g .possible) && ltb (g .possible) (2 ^ n) && leb (g .low) (g .high) && leb (g .high) n
 
--- code 1 to 6, "a count k (2 to 16)" of code 6, "Group numbers are 1 to s, all different in a line"
+-- code 1 to 7 by request 6, "a count k (2 to 16)" of code 6, "Group numbers are 1 to s, all different in a line"
 unfoldable pub codeInRange : ℕ → ℕ → Bool
-codeInRange code k = byEntrant code && (not (eqb code 6) || between 2 (limits .members - 1) k)
+codeInRange code k = between 1 7 code && (not (eqb code 6) || between 2 (limits .members - 1) k)
 
 unfoldable pub constraintInRange : ℕ → Constraint → Bool
 constraintInRange s c = codeInRange (c .code) (c .count) && every (between 1 s) (groupsOf c) && distinct (groupsOf c)

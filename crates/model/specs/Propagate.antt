@@ -12,9 +12,10 @@ use Rattle.model.specs.declared.Model.{Model}
 use Rattle.model.specs.declared.Propagated.{Propagated}
 use Rattle.model.specs.Lists.{every, pairwise, range, onPlace, stop}
 use Rattle.model.specs.Words.{full, less, size, inside}
-use Rattle.model.specs.Clauses.{clausesOf}
+use Rattle.model.specs.Clauses.{isDifference, clausesOf}
 use Rattle.model.specs.Model.{groupAt, tableOf, constraintsOf, withTable, Sized, inRange}
 use Rattle.model.specs.LimitRules.{limitRules}
+use Rattle.model.specs.Difference.{lone, unlikeIn, mayDiffer}
 
 -- ---- "Group rule"
 
@@ -71,8 +72,9 @@ unfoldable pub madeTrue : Literal → ℕ → List Group → List Group
 madeTrue (Pos g) w t = onPlace (g - 1) (fixedWith w) t
 madeTrue (Neg g) w t = onPlace (g - 1) (possibleWithout w) t
 
+-- among the entrants of w
 unfoldable pub literalRule : ℕ → Literal → List Literal → List Group → List Group
-literalRule n l others t = let w = allFalse t (full n) others in madeTrue l w t
+literalRule w l others t = let v = allFalse t w others in madeTrue l v t
 
 -- rules one after the other, "always on the newest table"
 abbrev pub run : {X : Type 0} → List (X → X) → X → X
@@ -81,15 +83,19 @@ run (r ∷ rs) x = run rs (r x)
 
 -- a clause's literals in order, after those that stand before them
 unfoldable pub clauseRules : ℕ → List Literal → List Literal → List (List Group → List Group)
-clauseRules n before [] = []
-clauseRules n before (l ∷ after) = literalRule n l (before ++ after) ∷ clauseRules n (before ++ (l ∷ [])) after
+clauseRules w before [] = []
+clauseRules w before (l ∷ after) = literalRule w l (before ++ after) ∷ clauseRules w (before ++ (l ∷ [])) after
 
 unfoldable pub clauseRule : ℕ → List Literal → List Group → List Group
-clauseRule n c = run (clauseRules n [] c)
+clauseRule w c = run (clauseRules w [] c)
+
+-- the entrants for whom a constraint's clauses are gone through: everyone; by request 6 "only where all entrants but one are settled alike", that one
+unfoldable pub scope : ℕ → List Group → Constraint → ℕ
+scope n t c = cond (isDifference c) (lone (unlikeIn t c)) (full n)
 
 -- the clauses, and by request 1 the limits after them
 unfoldable pub constraintRule : ℕ → Constraint → List Group → List Group
-constraintRule n c = run (map (clauseRule n) (clausesOf c) ++ limitRules c)
+constraintRule n c t = run (map (clauseRule (scope n t c)) (clausesOf c) ++ limitRules c) t
 
 -- ---- "A pass applies the group rule to groups 1..s, then the line rule to each line in order"
 
@@ -109,6 +115,10 @@ groupConsistent g = inside (g .fixed) (g .possible) && leb (g .low) (g .high)
 unfoldable pub consistent : List Group → Bool
 consistent t = every groupConsistent t
 
+-- what a table must pass after each pass: by request 6 "All settled alike is 21" too
+unfoldable pub tenable : List Constraint → List Group → Bool
+tenable cs t = consistent t && every (mayDiffer t) cs
+
 -- "If the pass changed nothing": sets and limits alike
 unfoldable pub sameGroup : Group → Group → Bool
 sameGroup a b = eqb (a .fixed) (b .fixed) && eqb (a .possible) (b .possible) && eqb (a .low) (b .low) && eqb (a .high) (b .high)
@@ -123,7 +133,7 @@ pub data Outcome (X : Type 0) : Type 0 where
   contradiction : Outcome X
   fixpoint : ℕ → X → Outcome X
 
--- "After each pass": is the table y consistent, is it unchanged; k passes were made before
+-- "After each pass": is the table y tenable, is it unchanged; k passes were made before
 abbrev pub afterPass : {X : Type 0} → Bool → Bool → ℕ → X → Outcome X → Outcome X
 afterPass false same k y rest = contradiction
 afterPass true true k y rest = fixpoint (suc k) y
@@ -139,7 +149,7 @@ iterate ok same next (suc fuel) k x =
 
 -- "it is at most 2·s·n + 1"
 unfoldable pub outcome : Model → Outcome (List Group)
-outcome m = iterate consistent sameTable (pass m) (2 * m .s * m .n + 1) 0 (tableOf m)
+outcome m = iterate (tenable (constraintsOf m)) sameTable (pass m) (2 * m .s * m .n + 1) 0 (tableOf m)
 
 -- "a refused settling returns the model it got and 0 passes"
 unfoldable pub refusedPropagation : ℕ → Model → Propagated
@@ -155,7 +165,7 @@ propagated m = let done = propagatedAs m (outcome m) in cond (inRange m) done (r
 
 -- "22 a pass would change the table or end in 21": refusal 22 is the opposite of this
 unfoldable pub isFixpoint : Model → Bool
-isFixpoint m = let t = pass m (tableOf m) in consistent t && sameTable t (tableOf m)
+isFixpoint m = let t = pass m (tableOf m) in tenable (constraintsOf m) t && sameTable t (tableOf m)
 
 -- 20, then 22: what each entry that asks for a settled model judges first, and the refusals after them
 unfoldable pub unsettledOr : Model → ℕ → ℕ

@@ -161,7 +161,7 @@ impl Model {
 
     pub const BLOCK_BYTES: usize = 32768;
 
-    pub const VARIABLES: usize = 49152;
+    pub const VARIABLES: usize = 57344;
 
     pub fn limits() -> Limits
         ensures { λ r. ⌜ r ≡ limits ⌝ }

@@ -11,8 +11,6 @@ use lib.Dec.{ltb}
 use lib.ListN.{length, getD, set, take, length-take}
 use lib.Seq.{take-suc, take-all, getD-take}
 use Rattle.model.specs.Lists.{range, total}
-use Rattle.model.specs.Limits.{limits}
-use Rattle.numbering.specs.Numbering.{numbers}
 use Rattle.model.proofs.Lists.{total-append, range-getD, range-length}
 
 pub next-take : {A : Type 0} (xs : List A) (i : ℕ) (d : A) → i < length xs → take (i + 1) xs ≡ take i xs ++ getD xs i d ∷ []
@@ -21,7 +19,7 @@ next-take xs i d h = ap (λ (n : ℕ). take n xs) (add-one i) ∙ take-suc xs i 
 -- ---- filling
 
 module _ {B : Type 0} where
-  take-set-next : (r : List B) (i : ℕ) (x : B) → i < length r → take (i + 1) (set r i x) ≡ take i r ++ x ∷ []
+  pub take-set-next : (r : List B) (i : ℕ) (x : B) → i < length r → take (i + 1) (set r i x) ≡ take i r ++ x ∷ []
   take-set-next [] i x h = absurd (omega arith)
   take-set-next (y ∷ r) zero x h = refl
   take-set-next (y ∷ r) (suc i) x h =
@@ -36,19 +34,15 @@ module _ {A B : Type 0} where
       ∙ ap₂ (λ (l m : List B). l ++ m) inv (ap {B = List B} (λ y. y ∷ []) e)
       ∙ sym (ap (map f) (next-take xs i d h) ∙ map-append f (take i xs) (getD xs i d ∷ []))
 
--- an array of the values of f at 1, 2, ..
-module _ (f : ℕ → ℕ) where
-  pub fill-numbers : (r : List ℕ) (i x : ℕ) → i < limits .groups → length r ≡ limits .groups → take i r ≡ map f (take i numbers) → x ≡ f (1 + i)
-      → take (i + 1) (set r i x) ≡ map f (take (i + 1) numbers)
-  unfolding numbers
+-- an array of the values of f at 1, 2, .. up to n
+module _ (n : ℕ) (f : ℕ → ℕ) where
+  pub fill-numbers : (r : List ℕ) (i x : ℕ) → i < n → length r ≡ n → take i r ≡ map f (take i (range 1 n)) → x ≡ f (1 + i)
+      → take (i + 1) (set r i x) ≡ map f (take (i + 1) (range 1 n))
   fill-numbers r i x h l inv e =
-      fill-next f (range 1 (limits .groups)) r i 0 x (omega (arith, range-length 1 (limits .groups))) (omega arith) inv
-      (e ∙ ap f (sym (range-getD 1 (limits .groups) i 0 h)))
+      fill-next f (range 1 n) r i 0 x (omega (arith, range-length 1 n)) (omega arith) inv (e ∙ ap f (sym (range-getD 1 n i 0 h)))
 
-  pub filled-numbers : (r : List ℕ) (i : ℕ) → limits .groups ≤ i → length r ≡ limits .groups → take i r ≡ map f (take i numbers) → r ≡ map f numbers
-  unfolding numbers
-  filled-numbers r i h l inv =
-      sym (take-all i r (omega arith)) ∙ inv ∙ ap (map f) (take-all i (range 1 (limits .groups)) (omega (arith, range-length 1 (limits .groups))))
+  pub filled-numbers : (r : List ℕ) (i : ℕ) → n ≤ i → length r ≡ n → take i r ≡ map f (take i (range 1 n)) → r ≡ map f (range 1 n)
+  filled-numbers r i h l inv = sym (take-all i r (omega arith)) ∙ inv ∙ ap (map f) (take-all i (range 1 n) (omega (arith, range-length 1 n)))
 
 -- ---- sums, of which the first s count
 

@@ -1,4 +1,5 @@
-// Which number each variable gets: the open entrants, group by group, then the totalizers' outputs. Read by the block writer and by closing.
+// Which number each variable gets: the open entrants, group by group, then the totalizers' outputs, then the X of code 7, line by line. Read by the
+// block writer, closing and filling.
 ghost use mathlib.Core.Path.{_≡_};
 ghost use mathlib.Core.Bool.{cond};
 ghost use Prim.Native.Nat.{_+_, _*_, _-_, _≤_};
@@ -7,8 +8,9 @@ ghost use lib.ListN.{take};
 ghost use Rattle.model.specs.Lists.{total};
 ghost use Rattle.model.specs.Limits.{limits};
 ghost use Rattle.model.specs.Totalizer.{treeOutputCount};
-ghost use Rattle.model.specs.Cnf.{openCount, outputsOf};
-ghost use Rattle.numbering.specs.Numbering.{totalizerOf, firstVariables, firstOutputs, numberingOf};
+ghost use Rattle.model.specs.Cnf.{openCount, outputsOf, differenceCount};
+ghost use Rattle.numbering.specs.Numbering.{totalizerOf, firstVariables, firstOutputs, differencesFrom, numberingOf};
+use model::Constraint;
 use model::Group;
 use model::Model;
 
@@ -193,7 +195,7 @@ fn number_open(groups: [Group; Model::GROUPS], s: u32) -> Numbered
 // The first output of each group's totalizer, had it one, from the number after the open entrants' on.
 fn number_outputs(groups: [Group; Model::GROUPS], s: u32, from: u32) -> Numbered
     requires { ⌜ (from ≡ 1 + total openCount (take s groups)) × (from ≤ 1 + limits .groups * limits .word) ⌝ }
-    ensures { λ r. ⌜ (r .first ≡ firstOutputs (take s groups)) × (r .next ≡ from + total outputsOf (take s groups)) ⌝ }
+    ensures { λ r. ⌜ (r .first ≡ firstOutputs (take s groups)) × (r .next ≡ from + total outputsOf (take s groups)) × (r .next ≤ from + limits .groups * (limits .word * limits .word)) ⌝ }
 {
     let mut first = [0; Model::GROUPS];
     let mut next = from;
@@ -207,10 +209,52 @@ fn number_outputs(groups: [Group; Model::GROUPS], s: u32, from: u32) -> Numbered
     Numbered { first, next }
 }
 
-// The first variable and the first output of each group, and V.
+// ---- all constraints
+
+// How many entrants have a variable X; 0 where a constraint does not count.
+fn differing_where(counts: bool, groups: [Group; Model::GROUPS], s: usize, c: Constraint) -> u32
+    ensures { λ r. ⌜ (r ≡ cond counts (differenceCount (take s groups) c) 0) × (r ≤ limits .word) ⌝ }
+{
+    if counts {
+        return u64::count_ones(difference::differing(groups, s, c));
+    }
+    0
+}
+
+// A number for each constraint, and the next free one.
+struct Differences {
+    first: [u32; Model::CONSTRAINTS],
+    next: u32,
+}
+
+// The first X of each constraint, of which the first c count, from the number after the outputs' on.
+fn number_differences(
+    groups: [Group; Model::GROUPS],
+    s: usize,
+    constraints: [Constraint; Model::CONSTRAINTS],
+    c: usize,
+    from: u32,
+) -> Differences
+    requires { ⌜ from ≤ 1 + limits .groups * limits .word + limits .groups * (limits .word * limits .word) ⌝ }
+    ensures { λ r. ⌜ (r .first ≡ differencesFrom from (take s groups) (take c constraints)) × (r .next ≡ from + total (differenceCount (take s groups)) (take c constraints)) ⌝ }
+{
+    let mut first = [0; Model::CONSTRAINTS];
+    let mut next = from;
+    let mut j: usize = 0;
+    while j < Model::CONSTRAINTS {
+        first[j] = next;
+        let l = constraints[j];
+        next += differing_where(j < c, groups, s, l);
+        j += 1;
+    }
+    Differences { first, next }
+}
+
+// The first variable and the first output of each group, the first X of each constraint, and V.
 pub struct Numbering {
     pub first: [u32; Model::GROUPS],
     pub outputs: [u32; Model::GROUPS],
+    pub differences: [u32; Model::CONSTRAINTS],
     pub variables: u32,
 }
 
@@ -218,13 +262,17 @@ pub fn of_model(m: Model) -> Numbering
     ensures { λ r. ⌜ r ≡ numberingOf m ⌝ }
 {
     let groups = m.groups;
+    let constraints = m.constraints;
     let v = number_open(groups, m.s);
     let o = number_outputs(groups, m.s, v.next);
+    let x = number_differences(groups, m.s as usize, constraints, m.c as usize, o.next);
     let first = v.first;
     let outputs = o.first;
+    let differences = x.first;
     Numbering {
         first,
         outputs,
-        variables: o.next - 1,
+        differences,
+        variables: x.next - 1,
     }
 }

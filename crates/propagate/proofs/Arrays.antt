@@ -1,5 +1,5 @@
 -- A literal at the place of its group: whether it is false, and what making it true stores. Assumes nothing.
-use mathlib.Core.Path.{_≡_, refl, sym, ap, _∙_, subst}
+use mathlib.Core.Path.{_≡_, refl, sym, ap, ap₂, _∙_, subst}
 use Prim.Native.Nat.{ℕ, _-_, _<_}
 use native.Mathlib.Omega.{arith}
 use mathlib.Core.List.{List, [], _∷_}
@@ -13,11 +13,12 @@ use Rattle.model.specs.Limits.{limits}
 use Rattle.model.specs.Words.{less}
 use Rattle.model.specs.Clauses.{ofGroup}
 use Rattle.model.specs.Model.{zeroGroup, groupAt}
+use Rattle.model.specs.Difference.{unlike}
 use Rattle.model.specs.Propagate.{falseIn, allFalse, fixedWith, possibleWithout, madeTrue}
 use Rattle.model.proofs.Lists.{place-length}
 use Rattle.table.proofs.Arrays.{zipped-at, fixed-stored, possible-stored}
 use Rattle.table.specs.Table.{group, zipped, Whole}
-use Rattle.propagate.specs.Flat.{Acts, AllFalse, Stands, LiteralStands}
+use Rattle.propagate.specs.Flat.{Acts, AllFalse, Stands, LiteralStands, Unlike}
 
 -- ---- a literal, at the place of its group
 
@@ -48,6 +49,13 @@ module _ (f p : List ℕ) (g i w : ℕ) (e : i ≡ g - 1) (small : i < limits .g
     where
       s : zipped f (set p i (less (getD p i 0) w)) l h ≡ onPlace i (possibleWithout w) (zipped f p l h)
       s = unfold possibleWithout in possible-stored f p l h i (possibleWithout w) (less (getD p i 0) w) refl
+
+-- the entrants who are not settled alike, at the places of two groups
+pub unlike-at : (f p ids : List ℕ) (i j u : ℕ) → (i ≡ getD ids 0 0 - 1) × (i < limits .groups) → (j ≡ getD ids 1 0 - 1) × (j < limits .groups)
+    → u ≡ less (bitOr (getD p i 0) (getD p j 0)) (bitAnd (getD f i 0) (getD f j 0)) → Unlike u f p ids
+unfolding unlike
+unlike-at f p ids i j u a b e l h k =
+    e ∙ sym (ap₂ unlike (at-group f p (getD ids 0 0) i 0 (a .0) (a .1) l h k) (at-group f p (getD ids 1 0) j 0 (b .0) (b .1) l h k))
 
 -- the same for a literal of a member
 

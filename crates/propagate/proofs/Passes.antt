@@ -4,10 +4,12 @@ use Prim.Native.Nat.{ℕ, zero, suc, _+_, _-_, _*_, _≤_, _<_}
 use native.Mathlib.Nat.{le-trans, sub-zero, mul-le-mul-right}
 use native.Mathlib.Numerals.{add-one}
 use native.Mathlib.Omega.{arith}
-use mathlib.Core.Bool.{Bool, true, false, cond, _&&_}
+use mathlib.Core.Bool.{Bool, true, false, cond, not, _&&_}
+use mathlib.Core.Logic.{⊎-elim}
 use mathlib.Core.List.{List, [], _∷_, _++_, map}
-use lib.Dec.{T}
-use lib.ListN.{length, take, drop, take-append-drop, List·getD-append}
+use borrow.Author.Tests.{eqb-true}
+use lib.Dec.{T, eqb}
+use lib.ListN.{length, getD, take, drop, take-append-drop, List·getD-append}
 use lib.Seq.{take-at, length-take-le}
 use Rattle.model.specs.declared.Literal.{Literal}
 use Rattle.model.specs.declared.Literal.the-variants.{Pos, Neg}
@@ -18,14 +20,16 @@ use Rattle.model.specs.declared.Propagated.{Propagated}
 use Rattle.model.specs.Lists.{every, total, range, onPlace, between, distinct}
 use Rattle.model.specs.Limits.{limits}
 use Rattle.model.specs.Words.{full}
-use Rattle.model.specs.Clauses.{memberCount, memberClauses, ofGroup, groupsOf, clausesOf}
-use Rattle.model.specs.Model.{zeroGroup, groupAt, tableOf, constraintsOf, codeInRange, constraintInRange, inRange}
+use Rattle.model.specs.Clauses.{memberCount, isDifference, ruleClauses, ofGroup, groupsOf, clausesOf}
+use Rattle.model.specs.Model.{zeroGroup, groupAt, memberAt, tableOf, constraintsOf, codeInRange, constraintInRange, inRange}
 use Rattle.model.specs.LimitRules.{raised, lowered, lowAtLeast, highAtMost, highAtMostSum, limitRules}
-use Rattle.model.specs.Propagate.{groupRule, groupRuleAt, falseIn, allFalse, fixedWith, possibleWithout, madeTrue, literalRule, run, clauseRules, clauseRule, constraintRule, rules, pass, consistent, sameTable, Outcome, contradiction, fixpoint, afterPass, iterate, outcome, refusedPropagation, propagatedAs, propagated, isFixpoint, unsettledOr}
+use Rattle.model.specs.Difference.{unlike, unlikeIn, lone, mayDiffer}
+use Rattle.model.specs.Propagate.{groupRule, groupRuleAt, falseIn, allFalse, fixedWith, possibleWithout, madeTrue, literalRule, run, clauseRules, clauseRule, scope, constraintRule, rules, pass, consistent, tenable, sameTable, Outcome, contradiction, fixpoint, afterPass, iterate, outcome, refusedPropagation, propagatedAs, propagated, isFixpoint, unsettledOr}
 use Rattle.model.specs.Assignment.{variable}
 use Rattle.model.proofs.Lists.{T-true, true-T, between-le, le-between, All, all-append, all-map, all-imp, all-every, every-all, and-left, and-right, and-both, place-append, place-length}
-use Rattle.model.proofs.Codes.{by-entrant, members-below}
+use Rattle.model.proofs.Codes.{entrant-or-seven, members-below}
 use Rattle.model.proofs.LimitRules.{all-limits}
+use Rattle.propagation_laws.proofs.Meaning.{rule-clauses}
 use Rattle.propagation_laws.proofs.Ranges.{constraint-code, groups-in, member-below, InRange, in-range}
 use Rattle.table.specs.Table.{Whole, Changes}
 use Rattle.table.proofs.Rules.{run-append}
@@ -87,25 +91,25 @@ module _ (s : ℕ) where
   local-made (Pos g) w h = local-place (g - 1) (fixedWith w) h
   local-made (Neg g) w h = local-place (g - 1) (possibleWithout w) h
 
-  local-literal : (n : ℕ) (l : Literal) (others : List Literal) → Inside l → All Inside others → Local (literalRule n l others)
+  local-literal : (w : ℕ) (l : Literal) (others : List Literal) → Inside l → All Inside others → Local (literalRule w l others)
   unfolding literalRule
-  local-literal n l others h k = record {
+  local-literal w l others h k = record {
     on = λ t u e.
-        let a = local-made l (allFalse t (full n) others) h .on t u e in
-        (ap (λ (w : ℕ). madeTrue l w (t ++ u)) (all-false-inside t u (full n) others e k) ∙ a .0, a .1);
+        let a = local-made l (allFalse t w others) h .on t u e in
+        (ap (λ (x : ℕ). madeTrue l x (t ++ u)) (all-false-inside t u w others e k) ∙ a .0, a .1);
   }
 
-  local-literals : (n : ℕ) (before after : List Literal) → All Inside before → All Inside after → All Local (clauseRules n before after)
+  local-literals : (w : ℕ) (before after : List Literal) → All Inside before → All Inside after → All Local (clauseRules w before after)
   unfolding clauseRules
-  local-literals n before [] h k = tt
-  local-literals n before (l ∷ after) h k = (
-    local-literal n l (before ++ after) (k .0) (all-append Inside before after h (k .1)),
-    local-literals n (before ++ (l ∷ [])) after (all-append Inside before (l ∷ []) h (k .0, tt)) (k .1),
+  local-literals w before [] h k = tt
+  local-literals w before (l ∷ after) h k = (
+    local-literal w l (before ++ after) (k .0) (all-append Inside before after h (k .1)),
+    local-literals w (before ++ (l ∷ [])) after (all-append Inside before (l ∷ []) h (k .0, tt)) (k .1),
   )
 
-  local-clause : (n : ℕ) (c : List Literal) → All Inside c → Local (clauseRule n c)
+  local-clause : (w : ℕ) (c : List Literal) → All Inside c → Local (clauseRule w c)
   unfolding clauseRule
-  local-clause n c h = local-run (clauseRules n [] c) (local-literals n [] c tt h)
+  local-clause w c h = local-run (clauseRules w [] c) (local-literals w [] c tt h)
 
   -- a limit of a group within them, by the limits of others within them
   local-by : (i : ℕ) (r : ℕ → Group → Group) (value : List Group → ℕ) → i < s
@@ -138,18 +142,33 @@ module _ (s : ℕ) where
   unfolding highAtMostSum
   local-sum g fs h k = local-by (g - 1) lowered (λ t. total (λ f. groupAt t f .high) fs) h (sum-inside fs k)
 
-  local-constraint : 0 < s → (n : ℕ) (c : Constraint) → All (All Inside) (clausesOf c) → All In (groupsOf c) → Local (constraintRule n c)
+  -- the clauses for entrants who are the same by the first s places as by all
+  local-constraint : 0 < s → (n : ℕ) (c : Constraint) → All (All Inside) (clausesOf c) → All In (groupsOf c)
+      → ((t u : List Group) → length t ≡ s → scope n (t ++ u) c ≡ scope n t c) → Local (constraintRule n c)
   unfolding constraintRule limitRules
-  local-constraint some n c h k =
-      local-run (map (clauseRule n) (clausesOf c) ++ limitRules c)
-      (all-append Local (map (clauseRule n) (clausesOf c)) (limitRules c) (all-map Local (clauseRule n) (clausesOf c) (each (clausesOf c) h))
-      (all-limits Local In (omega arith) local-low local-high local-sum (c .code) (groupsOf c) k))
+  local-constraint some n c h k same = record {
+    on = λ t u e.
+        let a = local-run (rulesFor (scope n t c)) (all-local (scope n t c)) .on t u e in
+        (ap (λ (w : ℕ). run (rulesFor w) (t ++ u)) (same t u e) ∙ a .0, a .1);
+  }
     where
-      each : (cs : List (List Literal)) → All (All Inside) cs → All (λ x. Local (clauseRule n x)) cs
-      each [] h = tt
-      each (x ∷ cs) h = (local-clause n x (h .0), each cs (h .1))
+      rulesFor : ℕ → List (List Group → List Group)
+      rulesFor w = map (clauseRule w) (clausesOf c) ++ limitRules c
+
+      each : (w : ℕ) (cs : List (List Literal)) → All (All Inside) cs → All (λ x. Local (clauseRule w x)) cs
+      each w [] h = tt
+      each w (x ∷ cs) h = (local-clause w x (h .0), each w cs (h .1))
+
+      all-local : (w : ℕ) → All Local (rulesFor w)
+      all-local w =
+          all-append Local (map (clauseRule w) (clausesOf c)) (limitRules c) (all-map Local (clauseRule w) (clausesOf c) (each w (clausesOf c) h))
+          (all-limits Local In (omega arith) local-low local-high local-sum (c .code) (groupsOf c) k)
 
 -- ---- an in-range constraint names the first s places
+
+seven-below : (k : ℕ) → All (All (λ l. variable l < memberCount 7 k)) (ruleClauses 7 k)
+unfolding ruleClauses memberCount
+seven-below k = ((omega arith, (omega arith, tt)), ((omega arith, (omega arith, tt)), tt))
 
 module _ (s : ℕ) (some : 1 ≤ s) (c : Constraint) (r : T (constraintInRange s c)) where
   abbrev Below : Literal → Type 0
@@ -160,17 +179,91 @@ module _ (s : ℕ) (some : 1 ≤ s) (c : Constraint) (r : T (constraintInRange s
   literal-inside (Pos i) h = omega (arith, member-below s c r i h)
   literal-inside (Neg i) h = omega (arith, member-below s c r i h)
 
+  -- member i of a table is that of its first s places
+  member-inside : (t u : List Group) → length t ≡ s → (i : ℕ) → i < memberCount (c .code) (c .count) → memberAt (t ++ u) c i ≡ memberAt t c i
+  unfolding memberAt
+  member-inside t u e i h = group-inside s t u (getD (c .groups) i 0) e (omega (arith, member-below s c r i h))
+
+  pub unlike-inside : isDifference c ≡ true → (t u : List Group) → length t ≡ s → unlikeIn (t ++ u) c ≡ unlikeIn t c
+  unfolding isDifference unlikeIn memberCount
+  unlike-inside d t u e =
+      let two : memberCount (c .code) (c .count) ≡ 2 = ap (λ (k : ℕ). memberCount k (c .count)) (eqb-true (c .code) 7 d) in
+      ap₂ unlike (member-inside t u e 0 (omega arith)) (member-inside t u e 1 (omega arith))
+
+  scope-inside : (n : ℕ) (t u : List Group) → length t ≡ s → scope n (t ++ u) c ≡ scope n t c
+  unfolding scope
+  scope-inside n t u e = go (isDifference c) refl
+    where
+      go : (d : Bool) → isDifference c ≡ d → cond d (lone (unlikeIn (t ++ u) c)) (full n) ≡ cond d (lone (unlikeIn t c)) (full n)
+      go true d = ap lone (unlike-inside d t u e)
+      go false d = refl
+
+  differs-inside : (t u : List Group) → length t ≡ s → mayDiffer (t ++ u) c ≡ mayDiffer t c
+  unfolding mayDiffer
+  differs-inside t u e = go (isDifference c) refl
+    where
+      go : (d : Bool) → isDifference c ≡ d → not (d && eqb (unlikeIn (t ++ u) c) 0) ≡ not (d && eqb (unlikeIn t c) 0)
+      go true d = ap (λ (w : ℕ). not (eqb w 0)) (unlike-inside d t u e)
+      go false d = refl
+
+  clauses-below : All (All Below) (ruleClauses (c .code) (c .count))
+  clauses-below = ⊎-elim
+      (λ six. subst (All (All Below)) (sym (rule-clauses (c .code) (c .count) six)) (members-below (c .code) (c .count) six))
+      (λ seven. subst (λ (k : ℕ). All (All (λ l. variable l < memberCount k (c .count))) (ruleClauses k (c .count))) (sym seven) (seven-below (c .count)))
+      (entrant-or-seven (c .code) (c .count) (constraint-code s c r))
+
   in-range-local : (n : ℕ) → Local s (constraintRule n c)
   unfolding clausesOf
   in-range-local n =
-      let cs = memberClauses (c .code) (c .count) in
       local-constraint s some n c
-      (all-map (All (Inside s)) (map (ofGroup (c .groups))) cs
+      (all-map (All (Inside s)) (map (ofGroup (c .groups))) (ruleClauses (c .code) (c .count))
       (all-imp (All Below) (λ ls. All (Inside s) (map (ofGroup (c .groups)) ls))
       (λ ls h. all-map (Inside s) (ofGroup (c .groups)) ls (all-imp Below (λ l. Inside s (ofGroup (c .groups) l)) literal-inside ls h))
-      cs (members-below (c .code) (c .count) (by-entrant (c .code) (c .count) (constraint-code s c r)))))
+      (ruleClauses (c .code) (c .count)) clauses-below))
       (all-imp (λ g. T (between 1 s g)) (λ g. g - 1 < s) (λ g h. omega (arith, between-le 1 s g h .0, between-le 1 s g h .1)) (groupsOf c)
       (every-all (between 1 s) (groupsOf c) (groups-in s c r)))
+      (scope-inside n)
+
+-- its groups are groups of the whole table, too
+pub all-stand : (s : ℕ) → s ≤ limits .groups → (cs : List Constraint) → T (every (constraintInRange s) cs) → T (every (constraintInRange (limits .groups)) cs)
+all-stand s few cs r =
+    all-every (constraintInRange (limits .groups)) cs
+    (all-imp (λ c. T (constraintInRange s c)) (λ c. T (constraintInRange (limits .groups) c)) wider cs (every-all (constraintInRange s) cs r))
+  where
+    wider : (c : Constraint) → T (constraintInRange s c) → T (constraintInRange (limits .groups) c)
+    wider c u = unfold constraintInRange in (
+        let k = codeInRange (c .code) (c .count) in
+        let a = every (between 1 s) (groupsOf c) in
+        let b = every (between 1 (limits .groups)) (groupsOf c) in
+        let d = distinct (groupsOf c) in
+        let in-groups : T b = all-every (between 1 (limits .groups)) (groupsOf c)
+        (all-imp (λ g. T (between 1 s g)) (λ g. T (between 1 (limits .groups) g))
+        (λ g h. let l = between-le 1 s g h in le-between 1 (limits .groups) g (l .0) (le-trans (l .1) few)) (groupsOf c)
+        (every-all (between 1 s) (groupsOf c) (groups-in s c u))) in
+        and-both (k && b) d (and-both k b (constraint-code s c u) in-groups) (and-right (k && a) d u))
+
+-- whether each of them may differ
+differ-inside : (s : ℕ) → 1 ≤ s → (cs : List Constraint) → T (every (constraintInRange s) cs) → (t u : List Group) → length t ≡ s
+    → every (mayDiffer (t ++ u)) cs ≡ every (mayDiffer t) cs
+differ-inside s some [] r t u e = refl
+differ-inside s some (c ∷ cs) r t u e =
+    let a = constraintInRange s c in
+    let b = every (constraintInRange s) cs in
+    ap₂ _&&_ (differs-inside s some c (and-left a b r) t u e) (differ-inside s some cs (and-right a b r) t u e)
+
+module _ (s : ℕ) (some : 1 ≤ s) (few : s ≤ limits .groups) (cs : List Constraint) (r : T (every (constraintInRange s) cs)) (t : List Group) (w : Whole t)
+    (q : Bool) (e : q ≡ consistent (take s t)) where
+  pub untenable : q ≡ false → false ≡ tenable cs (take s t)
+  unfolding tenable
+  untenable f = sym (ap (λ (x : Bool). x && every (mayDiffer (take s t)) cs) (sym e ∙ f))
+
+  pub tenable-by : q ≡ true → (a : Bool) → a ≡ every (mayDiffer t) cs → a ≡ tenable cs (take s t)
+  unfolding tenable
+  tenable-by f a d =
+      d
+      ∙ ap (λ u. every (mayDiffer u) cs) (sym (take-append-drop s t))
+      ∙ differ-inside s some cs r (take s t) (drop s t) (length-take-le s t (omega arith))
+      ∙ sym (ap (λ (x : Bool). x && every (mayDiffer (take s t)) cs) (sym e ∙ f))
 
 -- ---- a pass of the model is that of the arrays, at the first s places
 
@@ -180,6 +273,13 @@ module _ (m : Model) (t : T (inRange m)) where
 
   pub s-few : m .s ≤ limits .groups
   s-few = R .groupCount
+
+  pub s-some : 1 ≤ m .s
+  s-some = R .some-group
+
+  pub constraints-in : T (every (constraintInRange (m .s)) (take (m .c) (m .constraints)))
+  unfolding constraintsOf
+  constraints-in = R .constraints
 
   pub n-few : m .n ≤ limits .entrants
   n-few = R .entrants
@@ -215,58 +315,42 @@ module _ (m : Model) (t : T (inRange m)) where
 
   -- what the code asks of the constraints
   pub constraints-stand : T (every (constraintInRange (limits .groups)) (take (m .c) (m .constraints)))
-  unfolding constraintsOf
-  constraints-stand =
-      all-every (constraintInRange (limits .groups)) (constraintsOf m)
-      (all-imp (λ c. T (constraintInRange (m .s) c)) (λ c. T (constraintInRange (limits .groups) c)) wider (constraintsOf m)
-      (every-all (constraintInRange (m .s)) (constraintsOf m) (R .constraints)))
-    where
-      wider : (c : Constraint) → T (constraintInRange (m .s) c) → T (constraintInRange (limits .groups) c)
-      wider c u = unfold constraintInRange in (
-          let k = codeInRange (c .code) (c .count) in
-          let a = every (between 1 (m .s)) (groupsOf c) in
-          let b = every (between 1 (limits .groups)) (groupsOf c) in
-          let d = distinct (groupsOf c) in
-          let in-groups : T b = all-every (between 1 (limits .groups)) (groupsOf c)
-          (all-imp (λ g. T (between 1 (m .s) g)) (λ g. T (between 1 (limits .groups) g))
-          (λ g h. let l = between-le 1 (m .s) g h in le-between 1 (limits .groups) g (l .0) (le-trans (l .1) s-few)) (groupsOf c)
-          (every-all (between 1 (m .s)) (groupsOf c) (groups-in (m .s) c u))) in
-          and-both (k && b) d (and-both k b (constraint-code (m .s) c u) in-groups) (and-right (k && a) d u))
+  constraints-stand = all-stand (m .s) s-few (take (m .c) (m .constraints)) constraints-in
 
 -- ---- passes until one changes nothing: k are made, the table is t
 
 abbrev pub Left : Model → ℕ → List Group → Outcome (List Group)
-Left m k t = iterate consistent sameTable (pass m) (2 * m .s * m .n + 1 - k) k t
+Left m k t = iterate (tenable (constraintsOf m)) sameTable (pass m) (2 * m .s * m .n + 1 - k) k t
 
 pub left-start : (m : Model) → outcome m ≡ Left m 0 (tableOf m)
 unfolding outcome
-left-start m = ap (λ (f : ℕ). iterate consistent sameTable (pass m) f 0 (tableOf m)) (sym (sub-zero (2 * m .s * m .n + 1)))
+left-start m = ap (λ (f : ℕ). iterate (tenable (constraintsOf m)) sameTable (pass m) f 0 (tableOf m)) (sym (sub-zero (2 * m .s * m .n + 1)))
 
 module _ (m : Model) (k : ℕ) (t u : List Group) (e : u ≡ pass m t) (some : k < 2 * m .s * m .n + 1) where
-  once : Left m k t ≡ afterPass (consistent u) (sameTable u t) k u (Left m (k + 1) u)
+  once : Left m k t ≡ afterPass (tenable (constraintsOf m) u) (sameTable u t) k u (Left m (k + 1) u)
   unfolding iterate
   once =
-      ap (λ (f : ℕ). iterate consistent sameTable (pass m) f k t) less-by-one
-      ∙ sym (ap (λ y. afterPass (consistent y) (sameTable y t) k y (iterate consistent sameTable (pass m) (2 * m .s * m .n + 1 - (k + 1)) (suc k) y)) e)
-      ∙ ap (λ (j : ℕ). afterPass (consistent u) (sameTable u t) k u (iterate consistent sameTable (pass m) (2 * m .s * m .n + 1 - (k + 1)) j u)) (sym (add-one k))
+      ap (λ (f : ℕ). iterate (tenable (constraintsOf m)) sameTable (pass m) f k t) less-by-one
+      ∙ sym (ap (λ y. afterPass (tenable (constraintsOf m) y) (sameTable y t) k y (iterate (tenable (constraintsOf m)) sameTable (pass m) (2 * m .s * m .n + 1 - (k + 1)) (suc k) y)) e)
+      ∙ ap (λ (j : ℕ). afterPass (tenable (constraintsOf m) u) (sameTable u t) k u (iterate (tenable (constraintsOf m)) sameTable (pass m) (2 * m .s * m .n + 1 - (k + 1)) j u)) (sym (add-one k))
     where
       less-by-one : 2 * m .s * m .n + 1 - k ≡ suc (2 * m .s * m .n + 1 - (k + 1))
       less-by-one = omega arith
 
-  pub left-refused : consistent u ≡ false → Left m k t ≡ contradiction
+  pub left-refused : tenable (constraintsOf m) u ≡ false → Left m k t ≡ contradiction
   left-refused a = once ∙ rw a
 
-  pub left-done : consistent u ≡ true → sameTable u t ≡ true → Left m k t ≡ fixpoint (k + 1) u
+  pub left-done : tenable (constraintsOf m) u ≡ true → sameTable u t ≡ true → Left m k t ≡ fixpoint (k + 1) u
   left-done a b = once ∙ rw (a, b, add-one k)
 
-  pub left-next : consistent u ≡ true → sameTable u t ≡ false → Left m k t ≡ Left m (k + 1) u
+  pub left-next : tenable (constraintsOf m) u ≡ true → sameTable u t ≡ false → Left m k t ≡ Left m (k + 1) u
   left-next a b = once ∙ rw (a, b)
 
 pub left-none : (m : Model) (k : ℕ) (t : List Group) → 2 * m .s * m .n + 1 ≤ k → Left m k t ≡ contradiction
 unfolding iterate
 left-none m k t h =
     let z : 2 * m .s * m .n + 1 - k ≡ 0 = omega arith in
-    ap (λ (f : ℕ). iterate consistent sameTable (pass m) f k t) z
+    ap (λ (f : ℕ). iterate (tenable (constraintsOf m)) sameTable (pass m) f k t) z
 
 -- ---- the answer
 
@@ -295,7 +379,7 @@ made-few ok same next (suc fuel) k x = go (ok (next x)) (same (next x) x) (itera
 
 pub passes-few : (m : Model) → propagated m .passes ≤ 2 * m .s * m .n + 1
 unfolding propagated refusedPropagation outcome
-passes-few m = go (inRange m) (outcome m) (made-few consistent sameTable (pass m) (2 * m .s * m .n + 1) 0 (tableOf m))
+passes-few m = go (inRange m) (outcome m) (made-few (tenable (constraintsOf m)) sameTable (pass m) (2 * m .s * m .n + 1) 0 (tableOf m))
   where
     by-outcome : (o : Outcome (List Group)) → made o ≤ 0 + (2 * m .s * m .n + 1) → propagatedAs m o .passes ≤ 2 * m .s * m .n + 1
     by-outcome contradiction h = omega arith
@@ -319,7 +403,7 @@ pub whole-read : (a gs : List Group) → Whole gs → a ≡ gs → Whole a
 whole-read a gs w e = ap length e ∙ w
 
 module _ (m : Model) (t : T (inRange m)) (a b : List Group) (w : Whole a) (e : a ≡ m .groups)
-    (p : b ≡ run (rules (m .n) (m .s) (take (m .c) (m .constraints))) a) (r : Bool) (c : r ≡ consistent (take (m .s) b)) where
+    (p : b ≡ run (rules (m .n) (m .s) (take (m .c) (m .constraints))) a) (r : Bool) (c : r ≡ tenable (take (m .c) (m .constraints)) (take (m .s) b)) where
   now-is : take (m .s) a ≡ tableOf m
   unfolding tableOf
   now-is = ap (take (m .s)) e
@@ -327,9 +411,9 @@ module _ (m : Model) (t : T (inRange m)) (a b : List Group) (w : Whole a) (e : a
   next-is : take (m .s) b ≡ pass m (tableOf m)
   next-is = pass-first m t a b w p ∙ ap (pass m) now-is
 
-  fixpoint-is : isFixpoint m ≡ (consistent (take (m .s) b) && sameTable (take (m .s) b) (take (m .s) a))
-  unfolding isFixpoint
-  fixpoint-is = sym (ap₂ (λ x y. consistent x && sameTable x y) next-is now-is)
+  fixpoint-is : isFixpoint m ≡ (tenable (take (m .c) (m .constraints)) (take (m .s) b) && sameTable (take (m .s) b) (take (m .s) a))
+  unfolding isFixpoint constraintsOf
+  fixpoint-is = sym (ap₂ (λ x y. tenable (take (m .c) (m .constraints)) x && sameTable x y) next-is now-is)
 
   pub contradicts : r ≡ false → false ≡ isFixpoint m
   contradicts f = sym (fixpoint-is ∙ rw (sym c ∙ f))
@@ -380,14 +464,17 @@ module _ (m : Model) (t : T (inRange m)) (k : ℕ) (a : List Group) (inv : outco
   refused-at-end h o e = ended contradiction (left-none m k (take (m .s) a) h) o e
 
   module _ (b : List Group) (w : Whole a) (p : b ≡ run (rules (m .n) (m .s) (take (m .c) (m .constraints))) a) (some : k < 2 * m .s * m .n + 1)
-      (r : Bool) (c : r ≡ consistent (take (m .s) b)) where
+      (r : Bool) (c : r ≡ tenable (take (m .c) (m .constraints)) (take (m .s) b)) where
     pub refused-21 : r ≡ false → (o : Propagated) → o ≡ refusedPropagation 21 m → Contract m o
+    unfolding constraintsOf
     refused-21 f o e = ended contradiction (left-refused m k (take (m .s) a) (take (m .s) b) (pass-first m t a b w p) some (sym c ∙ f)) o e
 
     module _ (f : r ≡ true) (q : Bool) (d : q ≡ sameTable (take (m .s) b) (take (m .s) a)) where
       pub at-fixpoint : q ≡ true → (o : Propagated) → o ≡ propagatedAs m (fixpoint (k + 1) (take (m .s) b)) → Contract m o
+      unfolding constraintsOf
       at-fixpoint g o e =
           ended (fixpoint (k + 1) (take (m .s) b)) (left-done m k (take (m .s) a) (take (m .s) b) (pass-first m t a b w p) some (sym c ∙ f) (sym d ∙ g)) o e
 
       pub pass-more : q ≡ false → outcome m ≡ Left m (k + 1) (take (m .s) b)
+      unfolding constraintsOf
       pass-more g = inv ∙ left-next m k (take (m .s) a) (take (m .s) b) (pass-first m t a b w p) some (sym c ∙ f) (sym d ∙ g)

@@ -1,15 +1,20 @@
 -- What a rule does to the table of groups as four arrays.
 use Prim.Native.Nat.{ℕ, _≤_, _<_}
 use mathlib.Core.Path.{_≡_}
+use mathlib.Core.Bool.{Bool}
 use mathlib.Core.List.{List, []}
 use lib.ListN.{length, getD}
 use Rattle.model.specs.declared.Literal.{Literal}
 use Rattle.model.specs.declared.Literal.the-variants.{Pos, Neg}
 use Rattle.model.specs.declared.Group.{Group}
 use Rattle.model.specs.declared.Constraint.{Constraint}
+use Rattle.model.specs.Lists.{every}
 use Rattle.model.specs.Limits.{limits}
 use Rattle.model.specs.Clauses.{memberClauses}
-use Rattle.model.specs.Propagate.{allFalse}
+use Rattle.model.specs.Model.{groupAt}
+use Rattle.model.specs.Difference.{unlike, lone, mayDiffer}
+use Rattle.model.specs.Propagate.{allFalse, run}
+use Rattle.propagation_laws.proofs.DifferenceRule.{differenceSteps}
 use Rattle.table.specs.Table.{zipped, Whole, Changes}
 
 -- of a rule of the sets alone: from one pair of arrays to another, whatever the limits low and high are
@@ -37,3 +42,20 @@ ClauseStands ids c = (i : ℕ) → i < length c → LiteralStands ids (getD c i 
 
 abbrev pub constraintOf : ℕ → ℕ → List ℕ → Constraint
 constraintOf code k ids = record { code = code; count = k; groups = ids }
+
+-- ---- code 7
+
+-- the word is the entrants who are not settled alike in groups F and G
+abbrev pub Unlike : ℕ → List ℕ → List ℕ → List ℕ → Type 0
+Unlike r f p ids = (l h : List ℕ) → Whole (zipped f p l h) → r ≡ unlike (groupAt (zipped f p l h) (getD ids 0 0)) (groupAt (zipped f p l h) (getD ids 1 0))
+
+-- the answer is whether every constraint may differ
+abbrev pub MayDiffer : Bool → List ℕ → List ℕ → List Constraint → Type 0
+MayDiffer r f p cs = (l h : List ℕ) → Whole (zipped f p l h) → r ≡ every (mayDiffer (zipped f p l h)) cs
+
+-- its rule, by the groups' numbers alone
+unfoldable pub differenceRule : List ℕ → List Group → List Group
+differenceRule ids t =
+    let f = getD ids 0 0 in
+    let g = getD ids 1 0 in
+    run (differenceSteps (lone (unlike (groupAt t f) (groupAt t g))) f g) t

@@ -8,12 +8,12 @@ ghost use lib.ListN.{take};
 ghost use Rattle.model.specs.Limits.{limits};
 ghost use Rattle.model.specs.Lists.{every};
 ghost use Rattle.model.specs.Model.{constraintInRange, inRange};
-ghost use Rattle.model.specs.Propagate.{run, rules, refusedPropagation, propagated, isFixpoint, unsettledOr};
+ghost use Rattle.model.specs.Propagate.{run, rules, tenable, refusedPropagation, propagated, isFixpoint, unsettledOr};
 ghost use Rattle.table.specs.Table.{groupsIn, Whole};
 use model::Constraint;
-use model::Group;
 use model::Model;
 use model::Propagated;
+use rules::all_may_differ;
 use rules::constraint_rules;
 use rules::group_rules;
 use table::Table;
@@ -55,6 +55,19 @@ fn passed(
 
 // ---- passes
 
+// False is refusal 21: a look at groups 1 to s, and at constraints 1 to c.
+fn is_tenable(t: Table, constraints: [Constraint; Model::CONSTRAINTS], s: usize, c: usize) -> bool
+    requires { ⌜ Whole (groupsIn t) × ((1 ≤ s) × ((s ≤ limits .groups) × ((c ≤ limits .constraints) × T (every (constraintInRange s) (take c constraints))))) ⌝ }
+    ensures { λ r. ⌜ r ≡ tenable (take c constraints) (take s (groupsIn t)) ⌝ }
+{
+    if !table::is_consistent(t, s) {
+        return false;
+    }
+    let fixed = t.fixed;
+    let possible = t.possible;
+    all_may_differ(&fixed, &possible, constraints, c)
+}
+
 fn refused(refusal: u32, m: Model) -> Propagated
     ensures { λ r. ⌜ r ≡ refusedPropagation refusal m ⌝ }
 {
@@ -83,7 +96,7 @@ pub fn propagate(m: Model) -> Propagated
     while k < fuel {
         let u = passed(t, constraints, m.n, s, c);
         k += 1;
-        if !table::is_consistent(u, s) {
+        if !is_tenable(u, constraints, s, c) {
             return refused(21, m);
         }
         if table::is_same(u, t, s) {
@@ -100,11 +113,12 @@ fn is_fixpoint(m: Model) -> bool
     ensures { λ r. ⌜ r ≡ isFixpoint m ⌝ }
 {
     let s = m.s as usize;
+    let c = m.c as usize;
     let constraints = m.constraints;
     let groups = m.groups;
     let t = table::unpacked(groups);
-    let u = passed(t, constraints, m.n, s, m.c as usize);
-    if !table::is_consistent(u, s) {
+    let u = passed(t, constraints, m.n, s, c);
+    if !is_tenable(u, constraints, s, c) {
         return false;
     }
     table::is_same(u, t, s)

@@ -2,7 +2,9 @@ pub mod Fixpoint
 pub mod Tables
 pub mod GroupRule
 pub mod LimitRules
+pub mod Unlike
 pub mod ConstraintRule
+pub mod DifferenceRule
 pub mod Meaning
 pub mod Ranges
 pub mod Points

@@ -1,7 +1,7 @@
 -- Each code's meaning as sets is what its clauses say of every entrant, both ways, for every code. Assumes nothing.
 use mathlib.Core.Path.{_≡_, refl, sym, ap, ap₂, _∙_, subst}
 use mathlib.Core.Logic.{_↔_}
-use Prim.Native.Nat.{ℕ, _+_, _-_, _^_, _≤_, _<_}
+use Prim.Native.Nat.{ℕ, _+_, _^_, _≤_, _<_}
 use native.Mathlib.Nat.{le-trans}
 use native.Mathlib.Numerals.{add-one}
 use native.Mathlib.Omega.{arith}
@@ -16,9 +16,9 @@ use Rattle.model.specs.declared.Literal.the-variants.{Pos, Neg}
 use Rattle.model.specs.declared.Constraint.{Constraint}
 use Rattle.model.specs.Lists.{every, any, range}
 use Rattle.model.specs.Words.{less, has}
-use Rattle.model.specs.Clauses.{byEntrant, memberCount, shortClauses, unionClauses, memberClauses, ofGroup, groupsOf, clausesOf}
+use Rattle.model.specs.Clauses.{byEntrant, memberCount, shortClauses, unionClauses, memberClauses, ruleClauses, ofGroup, groupsOf, clausesOf}
 use Rattle.model.specs.Model.{codeInRange}
-use Rattle.model.proofs.Codes.{by-code, by-entrant, member-bound, members-below}
+use Rattle.model.proofs.Codes.{by-code, not-seven, member-bound, members-below}
 use Rattle.model.specs.Limits.{limits}
 use Rattle.model.specs.Assignment.{variable}
 use Rattle.model.specs.Solution.{union, meaning, setOf, constraintTrue}
@@ -45,14 +45,23 @@ of-group v gs (Pos i) = refl
 of-group v gs (Neg i) = refl
 
 pub over-members : (v : ℕ → Bool) (c : Constraint)
-    → clausesFor v (clausesOf c) ≡ clausesFor (λ i. v (getD (c .groups) i 0)) (memberClauses (c .code) (c .count))
+    → clausesFor v (clausesOf c) ≡ clausesFor (λ i. v (getD (c .groups) i 0)) (ruleClauses (c .code) (c .count))
 unfolding clausesFor clausesOf
 over-members v c =
-    every-map (any (literalFor v)) (map (ofGroup (c .groups))) (memberClauses (c .code) (c .count))
+    every-map (any (literalFor v)) (map (ofGroup (c .groups))) (ruleClauses (c .code) (c .count))
     ∙ every-ext (λ ls. any (literalFor v) (map (ofGroup (c .groups)) ls)) (any (literalFor (λ i. v (getD (c .groups) i 0))))
     (λ ls. any-map (literalFor v) (ofGroup (c .groups)) ls
     ∙ any-ext (λ l. literalFor v (ofGroup (c .groups) l)) (literalFor (λ i. v (getD (c .groups) i 0))) (of-group v (c .groups)) ls)
-    (memberClauses (c .code) (c .count))
+    (ruleClauses (c .code) (c .count))
+
+-- of codes 1 to 6 the line rule goes through the clauses of the table
+pub rule-clauses : (code k : ℕ) → T (byEntrant code) → ruleClauses code k ≡ memberClauses code k
+unfolding ruleClauses
+rule-clauses code k six = rw (not-seven code six)
+
+pub over-entrant : (v : ℕ → Bool) (c : Constraint) → T (byEntrant (c .code))
+    → clausesFor v (clausesOf c) ≡ clausesFor (λ i. v (getD (c .groups) i 0)) (memberClauses (c .code) (c .count))
+over-entrant v c six = over-members v c ∙ ap (clausesFor (λ i. v (getD (c .groups) i 0))) (rule-clauses (c .code) (c .count) six)
 
 -- ---- only the members count
 
@@ -203,19 +212,19 @@ module _ (k : ℕ) (S : ℕ → ℕ) where
 
 -- ---- a constraint
 
-pub meaning-clauses : (c : Constraint) → T (codeInRange (c .code) (c .count)) → limits .members ≤ length (c .groups) → (d : List ℕ)
+pub meaning-clauses : (c : Constraint) → T (codeInRange (c .code) (c .count)) → T (byEntrant (c .code)) → limits .members ≤ length (c .groups) → (d : List ℕ)
     → T (constraintTrue d c) ↔ ((e : ℕ) → T (clausesHold d c e))
 unfolding constraintTrue groupsOf clausesHold
-meaning-clauses c r wide d =
+meaning-clauses c r six wide d =
     let mc = memberCount (c .code) (c .count) in
     let S : ℕ → ℕ = λ i. setOf d (getD (c .groups) i 0) in
-    let is = by-members (c .count) S (c .code) (by-entrant (c .code) (c .count) r) in
+    let is = by-members (c .count) S (c .code) six in
     let few : mc ≤ length (c .groups) = le-trans (member-bound (c .code) (c .count) r) wide in
     let sets : map (setOf d) (take mc (c .groups)) ≡ map S (range 0 mc) =
     ap (map (setOf d)) (take-places 0 (c .groups) mc few) ∙ map-map (setOf d) (λ i. getD (c .groups) i 0) (range 0 mc) in (
-      (λ t e. subst T (sym (over-members (λ g. has (setOf d g) e) c)) (is .0 (subst (λ (ws : List ℕ). T (meaning (c .code) ws)) sets t) e)),
+      (λ t e. subst T (sym (over-entrant (λ g. has (setOf d g) e) c six)) (is .0 (subst (λ (ws : List ℕ). T (meaning (c .code) ws)) sets t) e)),
       (λ k. subst (λ (ws : List ℕ). T (meaning (c .code) ws)) (sym sets)
-          (is .1 (λ e. subst T (over-members (λ g. has (setOf d g) e) c) (k e)))),
+          (is .1 (λ e. subst T (over-entrant (λ g. has (setOf d g) e) c six) (k e)))),
     )
 
 -- ---- words below 2 ^ n: only the entrants below n count, for a clause has a literal with a minus sign
@@ -225,11 +234,11 @@ unfolding memberClauses shortClauses clausesFor literalFor
 none k = by-code (λ code. T (clausesFor (λ i. false) (memberClauses code k))) tt tt tt tt tt
     (subst T (sym (union-clauses k (λ i. false))) (rw (any-none (λ i. false) (range 1 k) (all-of (λ i. false ≡ false) (λ i. refl) (range 1 k))) tt))
 
-pub meaning-below : (c : Constraint) → T (codeInRange (c .code) (c .count)) → limits .members ≤ length (c .groups)
+pub meaning-below : (c : Constraint) → T (codeInRange (c .code) (c .count)) → T (byEntrant (c .code)) → limits .members ≤ length (c .groups)
     → (n : ℕ) (d : List ℕ) → ((g : ℕ) → setOf d g < 2 ^ n) → constraintTrue d c ≡ every (clausesHold d c) (range 0 n)
 unfolding clausesHold
-meaning-below c r wide n d small =
-    let is = meaning-clauses c r wide d in
+meaning-below c r six wide n d small =
+    let is = meaning-clauses c r six wide d in
     T-ext (constraintTrue d c) (every (clausesHold d c) (range 0 n)) (λ t. range-every (clausesHold d c) 0 n (λ e _ _. is .0 t e))
     (λ k. is .1 (λ e. go e (every-range (clausesHold d c) 0 n k e) (decLt e n)))
   where
@@ -237,7 +246,17 @@ meaning-below c r wide n d small =
     go e k (yes l) = k (omega arith) (omega arith)
     go e k (no f) =
         subst T
-        (sym (over-members (λ g. has (setOf d g) e) c
-        ∙ same-clauses (λ i. has (setOf d (getD (c .groups) i 0)) e) (λ i. false) (c .code) (c .count) (by-entrant (c .code) (c .count) r)
+        (sym (over-entrant (λ g. has (setOf d g) e) c six
+        ∙ same-clauses (λ i. has (setOf d (getD (c .groups) i 0)) e) (λ i. false) (c .code) (c .count) six
         (λ i _. has-past n (setOf d (getD (c .groups) i 0)) e (small (getD (c .groups) i 0)) (omega arith))))
-        (none (c .count) (c .code) (by-entrant (c .code) (c .count) r))
+        (none (c .count) (c .code) six)
+
+-- ---- code 7: the two sets differ
+
+pub difference-sets : (c : Constraint) → c .code ≡ 7 → limits .members ≤ length (c .groups) → (d : List ℕ)
+    → constraintTrue d c ≡ not (eqb (setOf d (getD (c .groups) 0 0)) (setOf d (getD (c .groups) 1 0)))
+unfolding constraintTrue groupsOf memberCount meaning
+difference-sets c seven wide d =
+    rw seven
+    (ap (λ (ws : List ℕ). not (eqb (getD ws 0 0) (getD ws 1 0)))
+    (ap (map (setOf d)) (take-places 0 (c .groups) 2 (omega arith))))

@@ -1,34 +1,38 @@
 -- A solution as a table that allows nothing else: it is a candidate, so no rule loses it. Assumes nothing.
 use mathlib.Core.Path.{_≡_, refl, sym, ap, ap₂, _∙_, subst}
+use mathlib.Core.Logic.{_⊎_, inl, inr}
 use Prim.Native.Nat.{ℕ, _-_, _≤_}
 use native.Mathlib.Nat.{le-refl}
 use native.Mathlib.Omega.{arith}
 use mathlib.Core.Bool.{Bool, true, false, cond, not, _&&_, _||_}
 use mathlib.Core.List.{List, [], _∷_, _++_, map}
+use borrow.Author.Tests.{eqb-true, eq-eqb}
 use lib.Dec.{T, leb, eqb, eqb→eq, leb→le}
 use lib.Bits.{bitAnd, bitOr, and-self, or-self, or-zero-r}
-use lib.ListN.{length, length-take, List·getD-map}
+use lib.ListN.{length, getD, length-take, List·getD-map}
 use Rattle.model.specs.declared.Literal.{Literal}
 use Rattle.model.specs.declared.Literal.the-variants.{Pos, Neg}
 use Rattle.model.specs.declared.Group.{Group}
 use Rattle.model.specs.declared.Constraint.{Constraint}
 use Rattle.model.specs.declared.Model.{Model}
 use Rattle.model.specs.Lists.{every, any, pairwise, total, range}
-use Rattle.model.specs.Words.{full, less, sizeIn, size, inside, has}
-use Rattle.model.specs.Clauses.{memberCount, groupsOf, clausesOf}
+use Rattle.model.specs.Words.{less, sizeIn, size, inside, has}
+use Rattle.model.specs.Clauses.{byEntrant, memberCount, isDifference, ruleClauses, groupsOf, clausesOf}
 use Rattle.model.specs.Limits.{limits}
-use Rattle.model.specs.Model.{zeroGroup, tableOf, constraintsOf, groupAt, membersSized, constraintInRange, inRange}
+use Rattle.model.specs.Model.{zeroGroup, tableOf, constraintsOf, groupAt, memberAt, membersSized, constraintInRange, inRange}
 use Rattle.model.specs.LimitRules.{raised, lowered, lowAtLeast, highAtMost, highAtMostSum, lowFirst, highFirst, unionLimits, limitsOf, limitRules}
-use Rattle.model.specs.Propagate.{limited, cut, filled, groupRule, falseIn, allFalse, fixedWith, possibleWithout, madeTrue, literalRule, clauseRules, clauseRule, constraintRule, groupRuleAt, rules, groupConsistent, consistent, sameTable}
-use Rattle.model.specs.Demand.{groupWithin, within, unchanged, isCandidate}
+use Rattle.model.specs.Difference.{unlike, unlikeIn, lone, mayDiffer}
+use Rattle.model.specs.Propagate.{limited, cut, filled, groupRule, falseIn, allFalse, fixedWith, possibleWithout, madeTrue, literalRule, clauseRules, clauseRule, scope, constraintRule, groupRuleAt, rules, groupConsistent, consistent}
+use Rattle.model.specs.Demand.{groupWithin, within, isCandidate}
 use Rattle.model.specs.Solution.{allowed, union, meaning, setOf, constraintTrue, isSolution}
 use Rattle.model.proofs.Lists.{place-same, and-left, and-right, and-both, and-assoc, any-append, All, all-of, all-append, all-map, map-all, all-imp, every-all, total-ext, total-map}
-use Rattle.model.proofs.Codes.{by-code, by-entrant, member-bound}
+use Rattle.model.proofs.Codes.{by-code, by-seven, not-seven, is-code, entrant-or-seven, member-bound}
 use Rattle.model.proofs.LimitRules.{raised-same, lowered-same}
-use Rattle.model.proofs.Words.{Sub, sub-refl, sub-trans, sub-antisym, sub-or, sub-or-l, sub-and-l, sub-and-r, sub-less, inside-sub, size-mono, has-and, has-less, has-ext, has-sub, union-sub, size-union}
+use Rattle.model.proofs.Words.{Sub, sub-refl, sub-trans, sub-antisym, sub-or, sub-or-l, sub-and-l, sub-and-r, sub-less, inside-sub, size-mono, bit-zero, has-zero, has-or, sub-has, has-and, has-less, has-ext, has-sub, union-sub, size-union}
 use Rattle.propagation_laws.proofs.Fixpoint.{Unchanged, whole, run-fixed}
 use Rattle.propagation_laws.proofs.GroupRule.{group-eq, is-consistent, tableFrame}
-use Rattle.propagation_laws.proofs.Meaning.{literalFor, clausesFor, clausesHold, meaning-clauses}
+use Rattle.propagation_laws.proofs.ConstraintRule.{constraintFrame, candidate-is}
+use Rattle.propagation_laws.proofs.Meaning.{literalFor, clausesFor, clausesHold, over-members, meaning-clauses, difference-sets}
 use Rattle.propagation_laws.proofs.Ranges.{in-range, constraint-code}
 
 abbrev pub point : ℕ → Group
@@ -118,15 +122,15 @@ module _ (d : List ℕ) where
       table false y z = refl
 
   -- the entrants for whom a literal is made true have it true
-  made : (n : ℕ) (l : Literal) (others : List Literal) → ((e : ℕ) → T (literalFor (v e) l || any (literalFor (v e)) others))
-      → (e : ℕ) → T (has (allFalse (points d) (full n) others) e) → T (literalFor (v e) l)
-  made n l others h e t =
-      table (has (full n) e) (literalFor (v e) l) (any (literalFor (v e)) others) (h e) (subst T (has-all-false e (full n) others) t)
+  made : (a : ℕ) (l : Literal) (others : List Literal) → ((e : ℕ) → T (has a e) → T (literalFor (v e) l || any (literalFor (v e)) others))
+      → (e : ℕ) → T (has (allFalse (points d) a others) e) → T (literalFor (v e) l)
+  made a l others h e t =
+      table (has a e) (literalFor (v e) l) (any (literalFor (v e)) others) (h e) (subst T (has-all-false e a others) t)
     where
-      table : (x y z : Bool) → T (y || z) → T (x && not z) → T y
+      table : (x y z : Bool) → (T x → T (y || z)) → T (x && not z) → T y
       table x true z s t = tt
       table true false true s t = t
-      table true false false s t = s
+      table true false false s t = s tt
       table false false z s t = t
 
   fixed-same : (w s : ℕ) → ((e : ℕ) → T (has w e) → T (has s e)) → fixedWith w (point s) ≡ point s
@@ -150,22 +154,22 @@ module _ (d : List ℕ) where
   made-same (Pos g) w h = place-same (g - 1) (fixedWith w) (points d) zeroGroup (rw (group-of d g) (fixed-same w (setOf d g) h))
   made-same (Neg g) w h = place-same (g - 1) (possibleWithout w) (points d) zeroGroup (rw (group-of d g) (possible-same w (setOf d g) h))
 
-  literal-same : (n : ℕ) (l : Literal) (others : List Literal) → ((e : ℕ) → T (literalFor (v e) l || any (literalFor (v e)) others))
-      → literalRule n l others (points d) ≡ points d
+  literal-same : (a : ℕ) (l : Literal) (others : List Literal) → ((e : ℕ) → T (has a e) → T (literalFor (v e) l || any (literalFor (v e)) others))
+      → literalRule a l others (points d) ≡ points d
   unfolding literalRule
-  literal-same n l others h = made-same l (allFalse (points d) (full n) others) (made n l others h)
+  literal-same a l others h = made-same l (allFalse (points d) a others) (made a l others h)
 
-  rules-same : (n : ℕ) (before after : List Literal) → ((e : ℕ) → T (any (literalFor (v e)) before || any (literalFor (v e)) after))
-      → Unchanged tableFrame (clauseRules n before after) (points d)
+  rules-same : (a : ℕ) (before after : List Literal) → ((e : ℕ) → T (has a e) → T (any (literalFor (v e)) before || any (literalFor (v e)) after))
+      → Unchanged tableFrame (clauseRules a before after) (points d)
   unfolding clauseRules
-  rules-same n before [] h = tt
-  rules-same n before (l ∷ after) h = (
-    literal-same n l (before ++ after)
-        (λ e. rw (any-append (literalFor (v e)) before after)
-        (swap (any (literalFor (v e)) before) (literalFor (v e) l) (any (literalFor (v e)) after) (h e))),
-    rules-same n (before ++ (l ∷ [])) after
-        (λ e. rw (any-append (literalFor (v e)) before (l ∷ []))
-        (move (any (literalFor (v e)) before) (literalFor (v e) l) (any (literalFor (v e)) after) (h e))),
+  rules-same a before [] h = tt
+  rules-same a before (l ∷ after) h = (
+    literal-same a l (before ++ after)
+        (λ e i. rw (any-append (literalFor (v e)) before after)
+        (swap (any (literalFor (v e)) before) (literalFor (v e) l) (any (literalFor (v e)) after) (h e i))),
+    rules-same a (before ++ (l ∷ [])) after
+        (λ e i. rw (any-append (literalFor (v e)) before (l ∷ []))
+        (move (any (literalFor (v e)) before) (literalFor (v e) l) (any (literalFor (v e)) after) (h e i))),
   )
     where
       swap : (a b c : Bool) → T (a || (b || c)) → T (b || (a || c))
@@ -179,14 +183,51 @@ module _ (d : List ℕ) where
       move false true c t = tt
       move false false c t = t
 
-  clauses-same : (n : ℕ) (cs : List (List Literal)) → ((e : ℕ) → T (clausesFor (v e) cs)) → All (λ c. clauseRule n c (points d) ≡ points d) cs
+  -- among the entrants of a word for whom the clauses hold
+  clauses-same : (a : ℕ) (cs : List (List Literal)) → ((e : ℕ) → T (has a e) → T (clausesFor (v e) cs))
+      → All (λ c. clauseRule a c (points d) ≡ points d) cs
   unfolding clausesFor clauseRule
-  clauses-same n [] h = tt
-  clauses-same n (c ∷ cs) h = (
-    run-fixed tableFrame (clauseRules n [] c) (points d)
-        (rules-same n [] c (λ e. and-left (any (literalFor (v e)) c) (every (any (literalFor (v e))) cs) (h e))),
-    clauses-same n cs (λ e. and-right (any (literalFor (v e)) c) (every (any (literalFor (v e))) cs) (h e)),
+  clauses-same a [] h = tt
+  clauses-same a (c ∷ cs) h = (
+    run-fixed tableFrame (clauseRules a [] c) (points d)
+        (rules-same a [] c (λ e i. and-left (any (literalFor (v e)) c) (every (any (literalFor (v e))) cs) (h e i))),
+    clauses-same a cs (λ e i. and-right (any (literalFor (v e)) c) (every (any (literalFor (v e))) cs) (h e i)),
   )
+
+  -- ---- code 7: the entrants not settled alike are those in just one of the two sets
+
+  abbrev just-one : Bool → Bool → Bool
+  just-one f g = (f || g) && not (f && g)
+
+  has-unlike : (c : Constraint) (e : ℕ) → has (unlikeIn (points d) c) e ≡ just-one (v e (getD (c .groups) 0 0)) (v e (getD (c .groups) 1 0))
+  unfolding unlikeIn unlike memberAt
+  has-unlike c e =
+      let x = setOf d (getD (c .groups) 0 0) in
+      let y = setOf d (getD (c .groups) 1 0) in
+      rw (group-of d (getD (c .groups) 0 0), group-of d (getD (c .groups) 1 0))
+      (has-less (bitOr x y) (bitAnd x y) e ∙ ap₂ (λ (p q : Bool). p && not q) (has-or x y e) (has-and x y e))
+
+  lone-sub : (w : ℕ) → Sub (lone w) w
+  unfolding lone
+  lone-sub w = go (eqb (size w) 1)
+    where
+      go : (b : Bool) → Sub (cond b w 0) w
+      go true = sub-refl w
+      go false = record { at = λ e. omega (arith, bit-zero e) }
+
+  -- for them the clauses hold
+  difference-holds : (n : ℕ) (c : Constraint) → c .code ≡ 7 → (e : ℕ) → T (has (scope n (points d) c) e) → T (clausesFor (v e) (clausesOf c))
+  unfolding scope isDifference ruleClauses clausesFor literalFor unlikeIn memberAt
+  difference-holds n c seven e t =
+      rw (over-members (v e) c, seven)
+      (table (v e (getD (c .groups) 0 0)) (v e (getD (c .groups) 1 0))
+      (subst T (has-unlike c e) (sub-has (lone (unlikeIn (points d) c)) (unlikeIn (points d) c) (lone-sub (unlikeIn (points d) c)) e (rw seven at t))))
+    where
+      table : (f g : Bool) → T (just-one f g) → T ((not f || (not g || false)) && ((f || (g || false)) && true))
+      table true true t = t
+      table true false t = tt
+      table false true t = tt
+      table false false t = t
 
   -- ---- limits: a set within another has no more entrants, and a union at most as many as its members together
 
@@ -290,13 +331,19 @@ module _ (d : List ℕ) where
   limits6 k [] h t = absurd (omega arith)
   limits6 k (x ∷ fs) h t = union-same x fs (eqb→eq (S x) (union (map S fs)) t)
 
+  limits7 : (k : ℕ) (gs : List ℕ) → Limits k 7 gs
+  unfolding limitsOf
+  limits7 k gs h t = tt
+
   limits-same : (s : ℕ) (c : Constraint) → T (constraintInRange s c) → limits .members ≤ length (c .groups) → T (constraintTrue d c) → All Same (limitRules c)
   unfolding limitRules constraintTrue
   limits-same s c r k t =
       let gs = groupsOf c in
       let few = member-bound (c .code) (c .count) (constraint-code s c r) in
-      by-code (λ code. Limits (c .count) code gs) (limits1 (c .count) gs) (limits2 (c .count) gs) (limits3 (c .count) gs) (limits4 (c .count) gs) (limits5 (c .count) gs) (limits6 (c .count) gs)
-      (c .code) (by-entrant (c .code) (c .count) (constraint-code s c r))
+      let L : ℕ → Type 0 = λ code. Limits (c .count) code gs in
+      by-seven L
+      (by-code L (limits1 (c .count) gs) (limits2 (c .count) gs) (limits3 (c .count) gs) (limits4 (c .count) gs) (limits5 (c .count) gs) (limits6 (c .count) gs))
+      (limits7 (c .count) gs) (c .code) (is-code (c .code) (c .count) (constraint-code s c r))
       (unfold groupsOf in length-take (memberCount (c .code) (c .count)) (c .groups) ∙ omega (arith, few)) t
 
   -- ---- a constraint
@@ -305,10 +352,46 @@ module _ (d : List ℕ) where
       → constraintRule n c (points d) ≡ points d
   unfolding constraintRule clausesHold
   constraint-same n s c r k t =
-      run-fixed tableFrame (map (clauseRule n) (clausesOf c) ++ limitRules c) (points d)
-      (all-append Same (map (clauseRule n) (clausesOf c)) (limitRules c)
-      (all-map Same (clauseRule n) (clausesOf c) (clauses-same n (clausesOf c) (meaning-clauses c (constraint-code s c r) k d .0 t)))
+      run-fixed tableFrame (map (clauseRule a) (clausesOf c) ++ limitRules c) (points d)
+      (all-append Same (map (clauseRule a) (clausesOf c)) (limitRules c)
+      (all-map Same (clauseRule a) (clausesOf c) (clauses-same a (clausesOf c) (go (entrant-or-seven (c .code) (c .count) (constraint-code s c r)))))
       (limits-same s c r k t))
+    where
+      a : ℕ
+      a = scope n (points d) c
+
+      go : T (byEntrant (c .code)) ⊎ (c .code ≡ 7) → (e : ℕ) → T (has a e) → T (clausesFor (v e) (clausesOf c))
+      go (inl six) e i = meaning-clauses c (constraint-code s c r) six k d .0 t e
+      go (inr seven) e i = difference-holds n c seven e i
+
+  -- and a code 7 constraint has such an entrant
+  constraint-differs : (s : ℕ) (c : Constraint) → T (constraintInRange s c) → limits .members ≤ length (c .groups) → T (constraintTrue d c)
+      → T (mayDiffer (points d) c)
+  unfolding mayDiffer isDifference unlikeIn memberAt
+  constraint-differs s c r k t = go (entrant-or-seven (c .code) (c .count) (constraint-code s c r))
+    where
+      x : ℕ
+      x = setOf d (getD (c .groups) 0 0)
+
+      y : ℕ
+      y = setOf d (getD (c .groups) 1 0)
+
+      equal : (f g : Bool) → just-one f g ≡ false → f ≡ g
+      equal true true e = refl
+      equal true false e = e
+      equal false true e = sym e
+      equal false false e = refl
+
+      some : (b : Bool) → eqb (unlikeIn (points d) c) 0 ≡ b → T (not (eqb x y)) → T (not b)
+      some false e h = tt
+      some true e h =
+          let same : x ≡ y = has-ext x y (λ i. equal (has x i) (has y i)
+          (sym (has-unlike c i) ∙ ap (λ (w : ℕ). has w i) (eqb-true (unlikeIn (points d) c) 0 e) ∙ has-zero i)) in
+          subst (λ b. T (not b)) (eq-eqb x y same) h
+
+      go : T (byEntrant (c .code)) ⊎ (c .code ≡ 7) → T (not (eqb (c .code) 7 && eqb (unlikeIn (points d) c) 0))
+      go (inl six) = rw (not-seven (c .code) six) tt
+      go (inr seven) = rw seven (some (eqb (unlikeIn (points d) c) 0) refl (subst T (difference-sets c seven k d) t))
 
   constraints-same : (n s : ℕ) (cs : List Constraint) → All (λ c. T (constraintInRange s c)) cs
       → All (λ c. T (leb (limits .members) (length (c .groups)))) cs → All (λ c. T (constraintTrue d c)) cs
@@ -319,23 +402,32 @@ module _ (d : List ℕ) where
     constraints-same n s cs (r .1) (k .1) (t .1),
   )
 
+  constraints-differ : (s : ℕ) (cs : List Constraint) → All (λ c. T (constraintInRange s c)) cs
+      → All (λ c. T (leb (limits .members) (length (c .groups)))) cs → All (λ c. T (constraintTrue d c)) cs
+      → T (every (mayDiffer (points d)) cs)
+  constraints-differ s [] r k t = tt
+  constraints-differ s (c ∷ cs) r k t =
+      and-both (mayDiffer (points d) c) (every (mayDiffer (points d)) cs)
+      (constraint-differs s c (r .0) (leb→le (limits .members) (length (c .groups)) (k .0)) (t .0)) (constraints-differ s cs (r .1) (k .1) (t .1))
+
 -- ---- a solution is a candidate
 
 pub solution-candidate : (m : Model) → T (inRange m) → T (membersSized m) → (d : List ℕ) → T (isSolution m d) → T (isCandidate m (points d))
-unfolding isSolution isCandidate consistent unchanged sameTable within rules
+unfolding isSolution consistent within rules
 solution-candidate m r k d t =
     let P : (List Group → List Group) → Type 0 = λ f. f (points d) ≡ points d in
     let a = pairwise allowed (tableOf m) d in
     let cs = constraintsOf m in
     let b = every (constraintTrue d) cs in
-    whole tableFrame (rules (m .n) (m .s) cs) (tableOf m) (points d)
+    let ranges = every-all (constraintInRange (m .s)) cs (in-range m r .constraints) in
+    let members = every-all (λ c. leb (limits .members) (length (c .groups))) cs k in
+    let all-true = every-all (constraintTrue d) cs (and-right a b t) in
+    rw (candidate-is m (points d))
+    (whole (constraintFrame cs) (rules (m .n) (m .s) cs) (tableOf m) (points d)
     (record {
-      consistent = points-consistent d;
+      consistent = and-both (consistent (points d)) (every (mayDiffer (points d)) cs) (points-consistent d) (constraints-differ d (m .s) cs ranges members all-true);
       unchanged = all-append P (map groupRuleAt (range 1 (m .s))) (map (constraintRule (m .n)) cs)
           (all-map P groupRuleAt (range 1 (m .s)) (all-of (λ g. groupRuleAt g (points d) ≡ points d) (points-group d) (range 1 (m .s))))
-          (all-map P (constraintRule (m .n)) cs
-          (constraints-same d (m .n) (m .s) cs (every-all (constraintInRange (m .s)) cs (in-range m r .constraints))
-          (every-all (λ c. leb (limits .members) (length (c .groups))) cs k)
-          (every-all (constraintTrue d) cs (and-right a b t))));
+          (all-map P (constraintRule (m .n)) cs (constraints-same d (m .n) (m .s) cs ranges members all-true));
       inside = subst T (allowed-points (tableOf m) d) (and-left a b t);
-    })
+    }))

@@ -15,14 +15,15 @@ use Rattle.model.specs.declared.Model.{Model}
 use Rattle.model.specs.declared.Propagated.{Propagated}
 use Rattle.model.specs.Lists.{every, pairwise, total}
 use Rattle.model.specs.Model.{tableOf, constraintsOf, withTable, membersSized, groupInRange, constraintInRange, inRange}
-use Rattle.model.specs.Propagate.{rules, pass, groupConsistent, consistent, sameTable, Outcome, contradiction, fixpoint, outcome, refusedPropagation, propagatedAs, propagated, isFixpoint}
+use Rattle.model.specs.Difference.{mayDiffer}
+use Rattle.model.specs.Propagate.{rules, pass, groupConsistent, consistent, tenable, sameTable, Outcome, contradiction, fixpoint, outcome, refusedPropagation, propagatedAs, propagated, isFixpoint}
 use Rattle.model.specs.Demand.{groupWithin, within, unchanged, isCandidate}
 use Rattle.model.specs.Solution.{constraintTrue, allowed, isSolution}
 use Rattle.model.proofs.Lists.{T-true, T-ext, and-left, and-right, and-both, every-all, all-every, all-at, all-mem, all-perm, perm-mem, pairwise-length, front-take, front-drop}
 use Rattle.model.proofs.Words.{size-le, sub-le}
-use Rattle.propagation_laws.proofs.Fixpoint.{Answer, Candidate, PassesAtMost, Narrower, SameTable, parts, candidate, run-fixed, iterate-answer, iterate-passes, iterate-once, narrower, narrower-both}
+use Rattle.propagation_laws.proofs.Fixpoint.{Frame, Answer, Candidate, PassesAtMost, Narrower, SameTable, parts, whole, candidate, run-fixed, iterate-answer, iterate-passes, iterate-once, narrower, narrower-both}
 use Rattle.propagation_laws.proofs.GroupRule.{narrow, sound, slack, tableFrame}
-use Rattle.propagation_laws.proofs.ConstraintRule.{all-rules, fewer-rules}
+use Rattle.propagation_laws.proofs.ConstraintRule.{constraintFrame, candidate-is, all-rules, fewer-rules}
 use Rattle.propagation_laws.proofs.Ranges.{group-range, is-group-range, in-range, is-in-range}
 use Rattle.propagation_laws.proofs.Points.{points, allowed-points, solution-candidate}
 
@@ -91,24 +92,23 @@ module _ (m : Model) where
   abbrev rs : List (List Group → List Group)
   rs = rules (m .n) (m .s) (constraintsOf m)
 
-  pub answer : T (inRange m) → Answer tableFrame rs (tableOf m) (outcome m)
-  unfolding outcome pass consistent sameTable tableOf
+  abbrev frame : Frame (List Group)
+  frame = constraintFrame (constraintsOf m)
+
+  pub answer : T (inRange m) → Answer frame rs (tableOf m) (outcome m)
+  unfolding outcome pass tenable consistent sameTable tableOf
   answer r =
-      iterate-answer tableFrame rs (all-rules (m .n) (m .s) (constraintsOf m)) (2 * m .s * m .n + 1) 0 (tableOf m)
+      iterate-answer frame rs (all-rules (m .n) (m .s) (constraintsOf m)) (2 * m .s * m .n + 1) 0 (tableOf m)
       (omega (arith, total-bound (m .n) (m .s) (m .groups) (in-range m r .groups)))
 
   bound : T (inRange m) → PassesAtMost (2 * m .s * m .n + 1) (outcome m)
-  unfolding outcome pass consistent sameTable tableOf
+  unfolding outcome pass tenable consistent sameTable tableOf
   bound r = weaken (outcome m)
-      (iterate-passes tableFrame rs (all-rules (m .n) (m .s) (constraintsOf m)) (2 * m .s * m .n + 1) 0 (tableOf m))
+      (iterate-passes frame rs (all-rules (m .n) (m .s) (constraintsOf m)) (2 * m .s * m .n + 1) 0 (tableOf m))
     where
       weaken : (o : Outcome (List Group)) → PassesAtMost (0 + total slack (tableOf m) + 1) o → PassesAtMost (2 * m .s * m .n + 1) o
       weaken contradiction h = tt
       weaken (fixpoint k t) h = omega (arith, total-bound (m .n) (m .s) (m .groups) (in-range m r .groups))
-
-  candidate-is : (t : List Group) → isCandidate m t ≡ candidate tableFrame rs (tableOf m) t
-  unfolding isCandidate consistent unchanged sameTable within
-  candidate-is t = refl
 
   propagated-is : T (inRange m) → propagated m ≡ propagatedAs m (outcome m)
   unfolding propagated
@@ -130,7 +130,11 @@ ranges n (x ∷ t) (y ∷ u) c w r =
     (ranges n t u (and-right (groupConsistent x) (every groupConsistent t) c) (and-right (groupWithin x y) (pairwise groupWithin t u) w)
     (and-right (groupInRange n y) (every (groupInRange n) u) r))
 
-module _ (m : Model) (r : T (inRange m)) (t : List Group) (c : Candidate tableFrame (rules (m .n) (m .s) (constraintsOf m)) (tableOf m) t) where
+module _ (m : Model) (r : T (inRange m)) (t : List Group) (c : Candidate (constraintFrame (constraintsOf m)) (rules (m .n) (m .s) (constraintsOf m)) (tableOf m) t) where
+  sound-table : T (consistent t)
+  unfolding consistent
+  sound-table = and-left (tableFrame .ok t) (every (mayDiffer t) (constraintsOf m)) (c .consistent)
+
   long : length t ≡ length (take (m .s) (m .groups))
   unfolding tableOf
   long = pairwise-length groupWithin t (tableOf m) (c .inside)
@@ -157,23 +161,23 @@ module _ (m : Model) (r : T (inRange m)) (t : List Group) (c : Candidate tableFr
         some-group = q .some-group;
         groupCount = q .groupCount;
         constraintCount = q .constraintCount;
-        groups = rw table-is (ranges (m .n) t (tableOf m) (c .consistent) (c .inside) (q .groups));
+        groups = rw table-is (ranges (m .n) t (tableOf m) sound-table (c .inside) (q .groups));
         constraints = q .constraints;
       })
 
   pass-same : pass (withTable m t) t ≡ t
   unfolding pass withTable constraintsOf
-  pass-same = run-fixed tableFrame (rs m) t (c .unchanged)
+  pass-same = run-fixed (frame m) (rs m) t (c .unchanged)
 
   fixpoint-is : T (isFixpoint (withTable m t))
-  unfolding isFixpoint consistent sameTable
-  fixpoint-is = rw (table-is, pass-same) (and-both (consistent t) (sameTable t t) (c .consistent) (tableFrame .same-refl t))
+  unfolding isFixpoint tenable consistent sameTable withTable constraintsOf
+  fixpoint-is = rw (table-is, pass-same) (and-both (tenable (constraintsOf m) t) (sameTable t t) (c .consistent) (tableFrame .same-refl t))
 
   again-is : propagated (withTable m t) ≡ record { refusal = 0; passes = 1; model = withTable m t }
-  unfolding outcome consistent sameTable
+  unfolding outcome tenable consistent sameTable
   again-is =
       let once : outcome (withTable m t) ≡ fixpoint 1 t =
-      rw (table-is, add-one) (iterate-once tableFrame (pass (withTable m t)) _ 0 t (c .consistent) pass-same) in
+      rw (table-is, add-one) (iterate-once (frame (withTable m t)) (pass (withTable m t)) _ 0 t (unfold withTable constraintsOf in c .consistent) pass-same) in
       propagated-is (withTable m t) still-in-range ∙ ap (propagatedAs (withTable m t)) once ∙ (λ i. record { refusal = 0; passes = 1; model = twice i })
 
   -- a solution says that its sets are within the table and its constraints true
@@ -205,22 +209,36 @@ module _ (m : Model) (r : T (inRange m)) (t : List Group) (c : Candidate tableFr
 -- ---- more constraints and a narrower table give a narrower answer
 
 module _ (m o : Model) (rm : T (inRange m)) (ro : T (inRange o)) where
-  outcome-narrower : Tighter m o → Narrower tableFrame (outcome m) (outcome o)
+  -- a candidate of m is one of o
+  fewer : Tighter m o → (u : List Group) → T (candidate (frame m) (rs m) (tableOf m) u)
+      → T (candidate (frame o) (rules (m .n) (m .s) (constraintsOf o)) (tableOf o) u)
   unfolding within
+  fewer h u t =
+      let c = parts (frame m) (rs m) (tableOf m) u t in
+      let D : Constraint → Type 0 = λ d. T (mayDiffer u d) in
+      whole (frame o) (rules (m .n) (m .s) (constraintsOf o)) (tableOf o) u (record {
+        consistent = and-both (tableFrame .ok u) (every (mayDiffer u) (constraintsOf o))
+            (and-left (tableFrame .ok u) (every (mayDiffer u) (constraintsOf m)) (c .consistent))
+            (all-every (mayDiffer u) (constraintsOf o) (all-mem D (constraintsOf o) (λ d i. all-at D (h .constraints d i)
+            (every-all (mayDiffer u) (constraintsOf m) (and-right (tableFrame .ok u) (every (mayDiffer u) (constraintsOf m)) (c .consistent))))));
+        unchanged = fewer-rules (m .n) (m .s) (constraintsOf m) (constraintsOf o) (h .constraints) u (c .unchanged);
+        inside = tableFrame .w-trans u (tableOf m) (tableOf o) (c .inside) (h .table);
+      })
+
+  outcome-narrower : Tighter m o → Narrower (frame o) (outcome m) (outcome o)
   outcome-narrower h =
-      narrower tableFrame (rs m) (rules (m .n) (m .s) (constraintsOf o))
-      (fewer-rules (m .n) (m .s) (constraintsOf m) (constraintsOf o) (h .constraints)) (tableOf m) (tableOf o) (outcome m) (outcome o) (h .table)
+      narrower (frame m) (frame o) (rs m) (rules (m .n) (m .s) (constraintsOf o)) (tableOf m) (tableOf o) (fewer h) (outcome m) (outcome o)
       (answer m rm) (rw (h .entrants, h .count) (answer o ro))
 
-  as-narrower : (p q : Outcome (List Group)) → Answer tableFrame (rs m) (tableOf m) p → Answer tableFrame (rs o) (tableOf o) q
-      → Narrower tableFrame p q → NarrowerAnswer (propagatedAs m p) (propagatedAs o q)
+  as-narrower : (p q : Outcome (List Group)) → Answer (frame m) (rs m) (tableOf m) p → Answer (frame o) (rs o) (tableOf o) q
+      → Narrower (frame o) p q → NarrowerAnswer (propagatedAs m p) (propagatedAs o q)
   unfolding refusedPropagation
   as-narrower contradiction q a b h = record { refused = λ e. refl; table = λ e. absurd (omega arith) }
   as-narrower (fixpoint j t) contradiction a b h = absurd h
   as-narrower (fixpoint j t) (fixpoint k u) a b h = record {
     refused = λ e. absurd (omega arith);
     table = λ e.
-        rw (table-is m rm t (parts tableFrame (rs m) (tableOf m) t (a .is)), table-is o ro u (parts tableFrame (rs o) (tableOf o) u (b .is)))
+        rw (table-is m rm t (parts (frame m) (rs m) (tableOf m) t (a .is)), table-is o ro u (parts (frame o) (rs o) (tableOf o) u (b .is)))
         (unfold within in h);
   }
 
@@ -283,15 +301,15 @@ module _ (m o : Model) (rm : T (inRange m)) (h : Reordered m o) where
   abbrev SameAnswer : Propagated → Propagated → Type 0
   SameAnswer a b = (a .refusal ≡ b .refusal) × (tableOf (a .model) ≡ tableOf (b .model))
 
-  as-same : (p q : Outcome (List Group)) → Answer tableFrame (rs m) (tableOf m) p → Answer tableFrame (rs o) (tableOf o) q
-      → T (inRange o) → SameTable tableFrame p q → SameAnswer (propagatedAs m p) (propagatedAs o q)
+  as-same : (p q : Outcome (List Group)) → Answer (frame m) (rs m) (tableOf m) p → Answer (frame o) (rs o) (tableOf o) q
+      → T (inRange o) → SameTable (frame o) p q → SameAnswer (propagatedAs m p) (propagatedAs o q)
   unfolding refusedPropagation
   as-same contradiction contradiction a b ro e = (refl, same-start m o h)
   as-same contradiction (fixpoint k u) a b ro e = absurd e
   as-same (fixpoint j t) contradiction a b ro e = absurd e
   as-same (fixpoint j t) (fixpoint k u) a b ro e = (
     refl,
-    table-is m rm t (parts tableFrame (rs m) (tableOf m) t (a .is)) ∙ e ∙ sym (table-is o ro u (parts tableFrame (rs o) (tableOf o) u (b .is))),
+    table-is m rm t (parts (frame m) (rs m) (tableOf m) t (a .is)) ∙ e ∙ sym (table-is o ro u (parts (frame o) (rs o) (tableOf o) u (b .is))),
   )
 
   reordered : SameAnswer (propagated m) (propagated o)
@@ -299,13 +317,13 @@ module _ (m o : Model) (rm : T (inRange m)) (h : Reordered m o) where
       let ro = reordered-range m o h rm in
       rw (propagated-is m rm, propagated-is o ro)
       (as-same (outcome m) (outcome o) (answer m rm) (answer o ro) ro
-      (narrower-both tableFrame (outcome m) (outcome o)
+      (narrower-both (frame o) (outcome m) (outcome o)
       (outcome-narrower m o rm ro (reordered-tighter m o h)) (outcome-narrower o m ro rm (reordered-tighter o m (reversed m o h)))))
 
 -- ---- all of it
 
 module _ (m : Model) (r : T (inRange m)) (k : T (membersSized m)) where
-  of-outcome : (o : Outcome (List Group)) → propagated m ≡ propagatedAs m o → Answer tableFrame (rs m) (tableOf m) o → PassesAtMost (2 * m .s * m .n + 1) o
+  of-outcome : (o : Outcome (List Group)) → propagated m ≡ propagatedAs m o → Answer (frame m) (rs m) (tableOf m) o → PassesAtMost (2 * m .s * m .n + 1) o
       → Propagation m (propagatedAs m o)
   unfolding refusedPropagation
   of-outcome contradiction e a b = record {
@@ -324,7 +342,7 @@ module _ (m : Model) (r : T (inRange m)) (k : T (membersSized m)) where
     any-order = λ o h. rw e at (reordered m o r h);
   }
   of-outcome (fixpoint j t) e a b =
-      let c = parts tableFrame (rs m) (tableOf m) t (a .is) in
+      let c = parts (frame m) (rs m) (tableOf m) t (a .is) in
       let w : (u : List Group) → T (isCandidate m u) → T (within u t) = λ u s. unfold within in a .widest u (rw (candidate-is m u) at s) in
       record {
         refusals = inl refl;

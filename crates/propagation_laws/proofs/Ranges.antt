@@ -1,5 +1,6 @@
 -- The parts of the range check, as facts. Assumes nothing.
-use mathlib.Core.Path.{_≡_, _∙_, subst}
+use mathlib.Core.Path.{_≡_, ap, _∙_, subst}
+use mathlib.Core.Logic.{⊎-elim}
 use Prim.Native.Nat.{ℕ, _^_, _≤_, _<_}
 use native.Mathlib.Omega.{arith}
 use mathlib.Core.Bool.{_&&_}
@@ -12,10 +13,10 @@ use Rattle.model.specs.declared.Model.{Model}
 use Rattle.model.specs.Lists.{every, between, distinct}
 use Rattle.model.specs.Words.{inside}
 use Rattle.model.specs.Limits.{limits}
-use Rattle.model.specs.Clauses.{memberCount, groupsOf}
+use Rattle.model.specs.Clauses.{byEntrant, memberCount, groupsOf}
 use Rattle.model.specs.Model.{tableOf, constraintsOf, groupInRange, codeInRange, constraintInRange, inRange}
 use Rattle.model.proofs.Lists.{and-left, and-right, and-both, between-le, le-between, every-all, every-getD, all-imp, all-getD}
-use Rattle.model.proofs.Codes.{member-bound}
+use Rattle.model.proofs.Codes.{entrant-or-seven, member-bound}
 use Rattle.model.proofs.Words.{Sub, inside-sub, sub-inside}
 
 -- ---- a group
@@ -67,6 +68,17 @@ module _ (s : ℕ) (c : Constraint) (t : T (constraintInRange s c)) where
       let a = codeInRange (c .code) (c .count) in
       let b = every (between 1 s) (groupsOf c) in
       and-right a b (and-left (a && b) (distinct (groupsOf c)) t)
+
+  -- every code but 7 is entrant by entrant
+  pub not-seven-entrant : (c .code ≡ 7 → ⊥) → T (byEntrant (c .code))
+  not-seven-entrant other = ⊎-elim (λ six. six) (λ seven. absurd (other seven)) (entrant-or-seven (c .code) (c .count) constraint-code)
+
+  -- code 7 has two groups
+  pub two-groups : c .code ≡ 7 → T (every (between 1 s) (take 2 (c .groups)))
+  two-groups seven =
+      let two : memberCount (c .code) (c .count) ≡ 2 = unfold memberCount in ap (λ (k : ℕ). memberCount k (c .count)) seven in
+      let all : T (every (between 1 s) (take (memberCount (c .code) (c .count)) (c .groups))) = unfold groupsOf in groups-in in
+      subst (λ (k : ℕ). T (every (between 1 s) (take k (c .groups)))) two all
 
   module _ (i : ℕ) (h : i < memberCount (c .code) (c .count)) where
     -- a member's group is one of the table's, or 0 where the list is too short

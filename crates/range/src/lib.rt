@@ -47,8 +47,8 @@ fn groups_in_range(groups: [Group; Model::GROUPS], s: usize, n: u32) -> bool
 
 // ---- constraints
 
-// The groups of each code below 6.
-const COUNTS: [usize; 6] = [0, 2, 2, 3, 3, 3];
+// The groups of each code but 6.
+const COUNTS: [usize; 8] = [0, 2, 2, 3, 3, 3, 0, 2];
 
 // How many groups a constraint has.
 pub fn member_count(code: u32, count: u32) -> usize
@@ -57,7 +57,7 @@ pub fn member_count(code: u32, count: u32) -> usize
     if code == 6 {
         return count as usize + 1;
     }
-    if code < 6 {
+    if code < 8 {
         return COUNTS[code as usize];
     }
     0
@@ -118,14 +118,14 @@ pub fn all_distinct(ids: [u32; Model::MEMBERS], k: usize) -> bool
     true
 }
 
-// A code is 1 to 6, and the count of code 6 is 2 to 16.
+// A code is 1 to 7, and the count of code 6 is 2 to 16.
 pub fn code_in_range(code: u32, count: u32) -> bool
     ensures { λ r. ⌜ r ≡ codeInRange code count ⌝ }
 {
     if code < 1 {
         return false;
     }
-    if 6 < code {
+    if 7 < code {
         return false;
     }
     if code != 6 {

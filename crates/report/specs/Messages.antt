@@ -26,7 +26,7 @@ meanings =
     ∷ (3, "the line is empty, or its length is no multiple of four columns\n")
     ∷ (4, "a field is not a number set to the right of its four columns, without needless zeros; only a mark may be left blank\n")
     ∷ (5, "another kind of line belongs here: one head (1), then the groups (2), then the constraints (3)\n")
-    ∷ (6, "the number of fields is wrong, or the code is not 1 to 6, or its count is not 2 to 16\n")
+    ∷ (6, "the number of fields is wrong, or the code is not 1 to 7, or its count is not 2 to 16\n")
     ∷ (7, "a number is out of its range\n")
     ∷ (8, "the group's number is not the next one\n")
     ∷ (9, "a group stands twice in the line\n")

@@ -63,7 +63,7 @@ fn add_meaning(m: Message, refusal: u32) -> Message
         ),
         6 => add(
             m,
-            b"the number of fields is wrong, or the code is not 1 to 6, or its count is not 2 to 16\n",
+            b"the number of fields is wrong, or the code is not 1 to 7, or its count is not 2 to 16\n",
         ),
         7 => add(m, b"a number is out of its range\n"),
         8 => add(m, b"the group's number is not the next one\n"),

@@ -15,13 +15,13 @@ use Rattle.model.specs.declared.Model.{Model}
 use Rattle.model.specs.Lists.{every, each, between, distinct, range}
 use Rattle.model.specs.Words.{has, wordWhere}
 use Rattle.model.specs.Limits.{limits}
-use Rattle.model.specs.Clauses.{byEntrant, memberCount, groupsOf}
+use Rattle.model.specs.Clauses.{memberCount, groupsOf}
 use Rattle.model.specs.Model.{codeInRange, constraintInRange}
 use Rattle.model.specs.Sheet.{valueAt, formRefusal, headRefusal, withHead, markAt, groupRefusal, groupFrom, firstGroup, countFrom, groupCount, constraintFrom, constraintRefusal}
 use Rattle.model.specs.Text.{fieldText}
 use Rattle.model.specs.SheetText.{headFields, markOf, groupFields, constraintFields, cleanConstraint}
 use Rattle.model.proofs.Lists.{T-true, and-right, between-le, le-between, every-all, All, all-imp, all-map, all-of, range-every, values-length, values-make, getD-map-range, take-places}
-use Rattle.model.proofs.Codes.{by-entrant, count-in, member-bound}
+use Rattle.model.proofs.Codes.{is-code, count-in, member-bound}
 use Rattle.model.proofs.Words.{Sub, sub-has, sub-le, has-ext, has-past, has-where, where-lt, word-ext}
 use Rattle.propagation_laws.proofs.Ranges.{GroupRange, InRange, constraint-code, groups-in}
 use Rattle.sheet_writer.proofs.Fields.{Short, row-fields, row-value, row-mark, row-form}
@@ -170,7 +170,7 @@ module _ (s : ℕ) (c : Constraint) (t : T (constraintInRange s c)) (few : s ≤
 
   pub constraint-short : All Short (constraintFields c)
   unfolding constraintFields
-  constraint-short = (omega arith, (omega (arith, between-le 1 6 (c .code) (by-entrant (c .code) (c .count) code) .1), go (eqb (c .code) 6) refl))
+  constraint-short = (omega arith, (omega (arith, between-le 1 7 (c .code) (is-code (c .code) (c .count) code) .1), go (eqb (c .code) 6) refl))
     where
       groups : All Short (groupsOf c)
       groups = all-imp (λ g. T (between 1 s g)) Short (λ g h. omega (arith, between-le 1 s g h .1)) (groupsOf c) (every-all (between 1 s) (groupsOf c) (groups-in s c t))
@@ -227,7 +227,7 @@ module _ (s : ℕ) (c : Constraint) (t : T (constraintInRange s c)) (few : s ≤
 
   same-members : memberCount (c .code) (cond (eqb (c .code) 6) (c .count) 0) ≡ k
   unfolding memberCount
-  same-members = go (eqb (c .code) 6) (getD (0 ∷ 2 ∷ 2 ∷ 3 ∷ 3 ∷ 3 ∷ []) (c .code) 0)
+  same-members = go (eqb (c .code) 6) _
     where
       go : (b : Bool) (other : ℕ) → cond b (cond b (c .count) 0 + 1) other ≡ cond b (c .count + 1) other
       go true other = refl
@@ -273,7 +273,7 @@ module _ (s : ℕ) (c : Constraint) (t : T (constraintInRange s c)) (few : s ≤
 
   clean-code : codeInRange (c .code) (cond (eqb (c .code) 6) (c .count) 0) ≡ true
   unfolding codeInRange
-  clean-code = T-true _ (go (eqb (c .code) 6) (byEntrant (c .code)) (code s c t few))
+  clean-code = T-true _ (go (eqb (c .code) 6) (between 1 7 (c .code)) (code s c t few))
     where
       go : (b x : Bool) → T (x && (not b || between 2 (limits .members - 1) (c .count)))
           → T (x && (not b || between 2 (limits .members - 1) (cond b (c .count) 0)))

@@ -12,11 +12,12 @@ use Rattle.model.specs.declared.Reading.{Reading}
 use Rattle.model.specs.declared.Closed.{Closed}
 use Rattle.model.specs.Lists.{every, stop}
 use Rattle.model.specs.Limits.{limits}
-use Rattle.model.specs.Model.{tableOf, constraintsOf, inRange}
+use Rattle.model.specs.Model.{tableOf, constraintsOf, constraintSized, Whole, inRange}
 use Rattle.model.specs.Propagate.{isFixpoint, unsettledOr}
 use Rattle.model.specs.Cnf.{variableCount}
 use Rattle.model.specs.Assignment.{isSaid}
 use Rattle.model.specs.Close.{satisfying, closedGroups, assignmentOf, closeRefusal, closed}
+use Rattle.model.proofs.Lists.{every-take}
 use Rattle.model.proofs.Refusals.{settled-rest, rest-settled, unsettled-first}
 use Rattle.propagation_laws.proofs.Ranges.{in-range}
 use Rattle.solution.specs.Holds.{tableWords, clausesHold, refusedClosing}
@@ -87,18 +88,16 @@ module _ (m : Model) (a : List Bool) (found : List ℕ) (e : found ≡ tableWord
   unfolding tableOf
   found-is = e ∙ words-are m a
 
-  pub verdict-is : (u : ℕ) → u ≡ unsettledOr m 0 → u ≡ 0
-      → (length (m .groups) ≡ limits .groups) × (length (m .constraints) ≡ limits .constraints) → (b x : Bool) → b ≡ clausesHold a (take (m .s) (m .groups)) (take (m .c) (m .constraints)) found (m .n) (m .s) → b ≡ x → satisfying m a ≡ x
+  pub verdict-is : (u : ℕ) → u ≡ unsettledOr m 0 → u ≡ 0 → Whole m
+      → (b x : Bool) → b ≡ clausesHold a (take (m .s) (m .groups)) (take (m .c) (m .constraints)) found (m .n) (m .s) (m .c) → b ≡ x → satisfying m a ≡ x
   unfolding tableOf constraintsOf
-  verdict-is u q z l b x k y =
-      let l0 = l .0 in
-      let l1 = l .1 in
+  verdict-is u q z w b x k y =
       let s = rest-settled m (sym q ∙ z) in
       let i = in-range m (s .0) in
       satisfying-is m a (record {
         in-range = s .0;
         fixpoint = s .1;
-        sized = record { groups = omega (arith, i .groupCount); constraints = omega (arith, i .constraintCount) };
-      })
-      ∙ ap (λ (d : List ℕ). clausesHold a (take (m .s) (m .groups)) (take (m .c) (m .constraints)) d (m .n) (m .s)) (sym found-is)
+        sized = record { groups = omega (arith, i .groupCount, w .groups); constraints = omega (arith, i .constraintCount, w .constraints) };
+      }) (every-take constraintSized (m .c) (m .constraints) (w .members))
+      ∙ ap (λ (d : List ℕ). clausesHold a (take (m .s) (m .groups)) (take (m .c) (m .constraints)) d (m .n) (m .s) (m .c)) (sym found-is)
       ∙ sym k ∙ y

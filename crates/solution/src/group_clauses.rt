@@ -15,7 +15,7 @@ use model::Model;
 // ---- variables
 
 // A variable's number, as an index: it stays one of 32 bits.
-fn wide(x: u32) -> usize
+pub(crate) fn wide(x: u32) -> usize
     ensures { λ r. ⌜ (r ≡ x) × (r < 5000000000) ⌝ }
 {
     x as usize
@@ -104,7 +104,7 @@ fn add_entrant(values: &[u8], g: Group, v: usize, e: u32, w: u64) -> u64
     w
 }
 
-fn word_of(values: &[u8], g: Group, v: usize, n: u32) -> u64
+pub(crate) fn word_of(values: &[u8], g: Group, v: usize, n: u32) -> u64
     requires { ⌜ (v < 10000000000) × (n ≤ limits .entrants) ⌝ }
     ensures { λ r. ⌜ r ≡ wordOf n (assignmentOf (now (values .entry))) g v ⌝ }
 {

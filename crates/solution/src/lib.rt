@@ -1,17 +1,21 @@
 // Closing: whether the values satisfy every clause, and the groups that they say. The last step of the chain.
 // A totalizer's outputs are compared with the count of its leaves, and a constraint's clauses are judged for all entrants at once.
+mod differences;
 mod group_clauses;
 
 ghost use mathlib.Core.Path.{_≡_};
-ghost use Prim.Native.Nat.{_≤_};
-ghost use lib.ListN.{length, take};
-ghost use Rattle.model.specs.Lists.{every};
+ghost use Prim.Native.Nat.{_+_, _≤_, _<_};
+ghost use lib.ListN.{take};
+ghost use Rattle.model.specs.Lists.{every, range};
 ghost use Rattle.model.specs.Limits.{limits};
+ghost use Rattle.model.specs.Cnf.{tableVariables};
 ghost use Rattle.model.specs.Assignment.{isSaid};
 ghost use Rattle.model.specs.Close.{assignmentOf, closed};
-ghost use Rattle.numbering.specs.Numbering.{firstVariables, firstOutputs};
-ghost use Rattle.solution.specs.Holds.{constraintHolds, clausesHold, refusedClosing};
+ghost use Rattle.numbering.specs.Numbering.{firstVariables, firstOutputs, differencesFrom};
+ghost use Rattle.solution.specs.Holds.{constraintHolds, constraintHoldsAt, clausesHold, refusedClosing};
+use differences::difference_holds;
 use group_clauses::groups_hold;
+use group_clauses::wide;
 use group_clauses::words;
 use model::Closed;
 use model::Constraint;
@@ -37,21 +41,46 @@ fn all_said(values: &[u8]) -> bool
     true
 }
 
-// The clauses of the first c constraints.
-fn constraints_hold(
+// The clauses of a constraint, whose X start at x.
+fn constraint_holds(
+    values: &[u8],
+    groups: [Group; Model::GROUPS],
+    l: Constraint,
     words: [u64; Model::GROUPS],
-    constraints: [Constraint; Model::CONSTRAINTS],
-    c: usize,
-    all: u64,
+    n: u32,
+    s: usize,
+    x: usize,
 ) -> bool
-    requires { ⌜ c ≤ limits .constraints ⌝ }
-    ensures { λ r. ⌜ r ≡ every (constraintHolds words all) (take c constraints) ⌝ }
+    requires { ⌜ (n ≤ limits .entrants) × (x < 10000000000) ⌝ }
+    ensures { λ r. ⌜ r ≡ constraintHolds (assignmentOf (now (values .entry))) (take s groups) words n x l ⌝ }
+{
+    if l.code == 7 {
+        return difference_holds(values, groups, l, words, n, s, x);
+    }
+    let ids = l.groups;
+    constraint_clauses::constraint_holds(words, ids, model::entrants(n), l.code, l.count)
+}
+
+// The clauses of the first c constraints, whose first X are given.
+fn constraints_hold(
+    values: &[u8],
+    groups: [Group; Model::GROUPS],
+    constraints: [Constraint; Model::CONSTRAINTS],
+    differences: [u32; Model::CONSTRAINTS],
+    words: [u64; Model::GROUPS],
+    n: u32,
+    s: usize,
+    c: usize,
+) -> bool
+    requires { ⌜ (n ≤ limits .entrants) × (c ≤ limits .constraints) ⌝ }
+    requires { ⌜ differences ≡ differencesFrom (1 + tableVariables (take s groups)) (take s groups) (take c constraints) ⌝ }
+    ensures { λ r. ⌜ r ≡ every (constraintHoldsAt (assignmentOf (now (values .entry))) (take s groups) (take c constraints) words n) (range 0 c) ⌝ }
 {
     let mut j: usize = 0;
     while j < c {
         let l = constraints[j];
-        let ids = l.groups;
-        if !constraint_clauses::constraint_holds(words, ids, all, l.code, l.count) {
+        let x = wide(differences[j]);
+        if !constraint_holds(values, groups, l, words, n, s, x) {
             return false;
         }
         j += 1;
@@ -59,7 +88,7 @@ fn constraints_hold(
     true
 }
 
-// Every clause of the listing; the arrays are whole.
+// Every clause of the listing.
 fn clauses_hold(
     values: &[u8],
     groups: [Group; Model::GROUPS],
@@ -71,16 +100,25 @@ fn clauses_hold(
     c: u32,
 ) -> bool
     requires { ⌜ (n ≤ limits .entrants) × (s ≤ limits .groups) × (c ≤ limits .constraints) ⌝ }
-    requires { ⌜ (v .first ≡ firstVariables (take s groups)) × (v .outputs ≡ firstOutputs (take s groups)) ⌝ }
-    ensures { λ r. ⌜ (length groups ≡ limits .groups) × (length constraints ≡ limits .constraints) ⌝ }
-    ensures { λ r. ⌜ r ≡ clausesHold (assignmentOf (now (values .entry))) (take s groups) (take c constraints) words n s ⌝ }
+    requires { ⌜ (v .first ≡ firstVariables (take s groups)) × (v .outputs ≡ firstOutputs (take s groups)) × (v .differences ≡ differencesFrom (1 + tableVariables (take s groups)) (take s groups) (take c constraints)) ⌝ }
+    ensures { λ r. ⌜ r ≡ clausesHold (assignmentOf (now (values .entry))) (take s groups) (take c constraints) words n s c ⌝ }
 {
     let first = v.first;
     let outputs = v.outputs;
     if !groups_hold(values, groups, first, outputs, words, s) {
         return false;
     }
-    constraints_hold(words, constraints, c as usize, model::entrants(n))
+    let differences = v.differences;
+    constraints_hold(
+        values,
+        groups,
+        constraints,
+        differences,
+        words,
+        n,
+        s as usize,
+        c as usize,
+    )
 }
 
 fn refused(refusal: u32) -> Closed
@@ -111,9 +149,10 @@ pub fn close(m: Model, r: Reading, values: &[u8]) -> Closed
         return refused(27);
     }
     let groups = m.groups;
+    let constraints = m.constraints;
+    model::whole(groups, constraints);
     let first = v.first;
     let found = words(values, groups, first, m.n, m.s);
-    let constraints = m.constraints;
     if !clauses_hold(values, groups, constraints, v, found, m.n, m.s, m.c) {
         return refused(28);
     }

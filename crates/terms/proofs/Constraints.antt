@@ -1,12 +1,13 @@
 -- A constraint's clauses for an entrant, over the members that it asks for. Assumes nothing.
 use mathlib.Core.Path.{_≡_, refl, sym, ap, ap₂, _∙_}
 use mathlib.Core.Bool.{Bool, true, false, cond}
-use mathlib.Core.List.{List, [], _∷_, map, map-map}
-use Prim.Native.Nat.{ℕ, suc, _+_, _-_, _%_, _^_, _≤_, _<_}
+use mathlib.Core.List.{List, [], _∷_, _++_, map}
+use Prim.Native.Nat.{ℕ, zero, suc, _+_, _-_, _%_, _^_, _≤_, _<_}
 use native.Mathlib.Nat.{mod-eq-of-lt}
 use native.Mathlib.Omega.{arith}
+use borrow.Author.Tests.{ne-eqb}
 use lib.Dec.{T}
-use lib.ListN.{length, getD, take, replicate, length-take, length-map}
+use lib.ListN.{length, getD, set, take, replicate, length-take, length-map, length-append, length-replicate}
 use lib.Seq.{getD-take, take-at}
 use Rattle.model.specs.declared.Literal.{Literal}
 use Rattle.model.specs.declared.Literal.the-variants.{Pos, Neg}
@@ -16,16 +17,20 @@ use Rattle.model.specs.declared.Constraint.{Constraint}
 use Rattle.model.specs.Lists.{every, each, range, between}
 use Rattle.model.specs.Limits.{limits}
 use Rattle.model.specs.Words.{less, size, has}
-use Rattle.model.specs.Clauses.{memberClauses, ofGroup, clausesOf}
+use Rattle.model.specs.Clauses.{byEntrant, memberClauses}
 use Rattle.model.specs.Model.{zeroGroup, groupAt}
+use Rattle.model.specs.Difference.{isApart}
 use Rattle.model.specs.Totalizer.{oppositeTerm, keep}
-use Rattle.model.specs.Cnf.{firstVariable, variableOf, openOf, membership, termOf, clausesAt}
+use Rattle.model.specs.Cnf.{firstVariable, variableOf, openOf, differing, membership, constraintTerm, termOf, clausesAt}
 use Rattle.model.specs.Assignment.{variable}
 use Rattle.model.proofs.Words.{size-ones, below-few}
-use Rattle.model.proofs.Lists.{between-le, every-getD, each-map, each-range-ext, getD-map-in, places}
+use Rattle.model.proofs.Lists.{between-le, every-getD, each-map, each-range-ext, getD-map-in, places, take-places}
+use Rattle.encoding_laws.proofs.Differences.{six-member, is-difference, difference-member}
 use Rattle.numbering.specs.Numbering.{firstVariables}
+use Rattle.numbering.proofs.Arrays.{take-set-next}
 use Rattle.numbering.proofs.Models.{variable-from}
-use Rattle.terms.specs.Terms.{firstOf, memberAt, memberOf, absent, present, memberNumber, numberAt, numberTerm, literalTerm, clauseOf, clauseTerms, MembersBelow}
+use Rattle.terms.specs.declared.Member.{Member}
+use Rattle.terms.specs.Terms.{firstOf, noMember, memberAt, memberOf, differenceMember, absent, present, memberNumber, numberAt, numberTerm, literalTerm, clauseOf, clauseTerms, MembersBelow}
 use Rattle.terms.proofs.Arrays.{place-in, number-in, term-absent, term-present, term-open}
 
 pub values-map : {A B : Type 0} (f g : A → B) (d : A) (xs : List A) → ((i : ℕ) → i < length xs → f (getD xs i d) ≡ g (getD xs i d)) → map f xs ≡ map g xs
@@ -76,45 +81,97 @@ clause-first ns us k code count w e j h =
 -- ---- what the definitions say of an entrant
 
 -- a member's number, where its variables are small: an open one is neither absent nor present
+number-term : (m : Member) (e : ℕ) → 1 ≤ m .first → m .first ≤ suc (limits .variables) → e < limits .entrants
+    → numberTerm (memberNumber e m)
+    ≡ cond (has (m .fixed) e) Holds (cond (has (m .possible) e) (Open (Pos (m .first + size (less (m .possible) (m .fixed) % 2 ^ e)))) Fails)
+unfolding memberNumber
+number-term m e one small h =
+    let w = less (m .possible) (m .fixed) in
+    let v = m .first + size (w % 2 ^ e) in
+    let few : v < present = omega (arith, size-ones (w % 2 ^ e), below-few w e (2 ^ e) refl) in
+    let fits : v < 2 ^ 32 = omega arith in
+    rw (mod-eq-of-lt fits) (go v (has (m .fixed) e) (has (m .possible) e) (sym (term-open v (λ q. omega arith) (λ q. omega arith))))
+  where
+    go : (v : ℕ) (f p : Bool) → numberTerm v ≡ Open (Pos v) → numberTerm (cond f present (cond p v absent)) ≡ cond f Holds (cond p (Open (Pos v)) Fails)
+    go v true p q = sym (term-present present refl)
+    go v false true q = q
+    go v false false q = sym (term-absent absent refl)
+
+-- the first k members of a constraint, whose X are numbered from x on, say of every entrant what the definitions say
+pub record Saying (x : ℕ) (t : List Group) (c : Constraint) (ms : List Member) (k : ℕ) : Type 0 where
+  pub term : (e i : ℕ) → e < limits .entrants → i < k → numberTerm (numberAt (map (memberNumber e) ms) i) ≡ constraintTerm x t c e i
+
 module _ (t : List Group) (small : (g : ℕ) → firstVariable t g ≤ suc (limits .variables)) where
   one-or-more : (g : ℕ) → 1 ≤ firstVariable t g
   unfolding firstVariable
   one-or-more g = omega arith
 
   member-term : (e g : ℕ) → e < limits .entrants → numberTerm (memberNumber e (memberOf t g)) ≡ membership t e g
-  unfolding memberNumber memberOf membership variableOf openOf
-  member-term e g h =
-      let w = less (groupAt t g .possible) (groupAt t g .fixed) in
-      let v = firstVariable t g + size (w % 2 ^ e) in
-      let few : v < present = omega (arith, small g, size-ones (w % 2 ^ e), below-few w e (2 ^ e) refl) in
-      let fits : v < 2 ^ 32 = omega arith in
-      rw (mod-eq-of-lt fits)
-      (go v (has (groupAt t g .fixed) e) (has (groupAt t g .possible) e) (sym (term-open v (λ q. omega (arith, one-or-more g)) (λ q. omega arith))))
-    where
-      go : (v : ℕ) (f p : Bool) → numberTerm v ≡ Open (Pos v) → numberTerm (cond f present (cond p v absent)) ≡ cond f Holds (cond p (Open (Pos v)) Fails)
-      go v true p q = sym (term-present present refl)
-      go v false true q = q
-      go v false false q = sym (term-absent absent refl)
+  unfolding memberOf membership variableOf openOf
+  member-term e g h = number-term (memberOf t g) e (one-or-more g) (small g) h
 
-module _ (t : List Group) (small : (g : ℕ) → firstVariable t g ≤ suc (limits .variables)) (gs : List ℕ) (k e : ℕ) (wide : length gs ≡ limits .members)
-    (few : k ≤ limits .members) (h : e < limits .entrants) where
-  abbrev numbers : List ℕ
-  numbers = map (memberNumber e) (map (memberOf t) (take k gs))
-
-  number-is : (i : ℕ) → i < k → numberTerm (numberAt numbers i) ≡ membership t e (getD gs i 0)
-  number-is i l =
-      let a : i < length (take k gs) = omega (arith, length-take k gs) in
-      let b : i < length (map (memberOf t) (take k gs)) = omega (arith, length-map (take k gs) (memberOf t)) in
+  -- a member among others
+  group-term : (ms : List Member) (e i g : ℕ) → e < limits .entrants → i < limits .members → i < length ms → getD ms i (memberOf t 0) ≡ memberOf t g
+      → numberTerm (numberAt (map (memberNumber e) ms) i) ≡ membership t e g
+  group-term ms e i g h few l is =
       ap numberTerm
-      (sym (number-in numbers i (omega arith))
-      ∙ getD-map-in (memberNumber e) (map (memberOf t) (take k gs)) i (memberOf t 0) absent b
-      ∙ ap (memberNumber e) (getD-map-in (memberOf t) (take k gs) i 0 (memberOf t 0) a ∙ ap (memberOf t) (getD-take k gs i 0 l)))
-      ∙ member-term t small e (getD gs i 0) h
+      (sym (number-in (map (memberNumber e) ms) i few) ∙ getD-map-in (memberNumber e) ms i (memberOf t 0) absent l ∙ ap (memberNumber e) is)
+      ∙ member-term e g h
 
-  literal-is : (l : Literal) → variable l < k → termOf t e (ofGroup gs l) ≡ literalTerm numbers l
-  unfolding termOf ofGroup
-  literal-is (Pos i) l = sym (number-is i l)
-  literal-is (Neg i) l = ap oppositeTerm (sym (number-is i l))
+  module _ (c : Constraint) (wide : length (c .groups) ≡ limits .members) where
+    -- codes 1 to 6: the members are groups
+    pub six-saying : T (byEntrant (c .code)) → (x k : ℕ) → k ≤ limits .members → Saying x t c (map (memberOf t) (take k (c .groups))) k
+    six-saying six x k few = record {
+      term = λ e i h l.
+          let a : i < length (take k (c .groups)) = omega (arith, length-take k (c .groups)) in
+          group-term (map (memberOf t) (take k (c .groups))) e i (getD (c .groups) i 0) h (omega arith) (omega (arith, length-map (take k (c .groups)) (memberOf t)))
+          (getD-map-in (memberOf t) (take k (c .groups)) i 0 (memberOf t 0) a ∙ ap (memberOf t) (getD-take k (c .groups) i 0 l))
+          ∙ sym (six-member t c six x e i);
+    }
+
+    -- code 7: two groups, and X
+    module _ (seven : c .code ≡ 7) (x : ℕ) (one : 1 ≤ x) (few : x ≤ suc (limits .variables)) where
+      abbrev X : Member
+      X = differenceMember x (differing t c)
+
+      abbrev three : List Member
+      three = memberOf t (getD (c .groups) 0 0) ∷ memberOf t (getD (c .groups) 1 0) ∷ X ∷ []
+
+      group-of : (e i : ℕ) → i < 2 → membership t e (getD (c .groups) i 0) ≡ constraintTerm x t c e i
+      unfolding constraintTerm
+      group-of e i l = rw (is-difference t c seven, ne-eqb i 2 (λ q. omega arith))
+
+      difference-of : (e : ℕ) → e < limits .entrants → numberTerm (memberNumber e X) ≡ constraintTerm x t c e 2
+      unfolding constraintTerm differenceMember
+      difference-of e h = number-term X e one few h ∙ sym (difference-member x t c e) ∙ rw (is-difference t c seven)
+
+      pub seven-saying : Saying x t c three 3
+      seven-saying = record { term = λ e i h l. go e h i l }
+        where
+          go : (e : ℕ) → e < limits .entrants → (i : ℕ) → i < 3 → numberTerm (numberAt (map (memberNumber e) three) i) ≡ constraintTerm x t c e i
+          go e h zero l = group-term three e 0 (getD (c .groups) 0 0) h (omega arith) (omega arith) refl ∙ group-of e 0 (omega arith)
+          go e h (suc zero) l = group-term three e 1 (getD (c .groups) 1 0) h (omega arith) (omega arith) refl ∙ group-of e 1 (omega arith)
+          go e h (suc (suc zero)) l = ap numberTerm (sym (number-in (map (memberNumber e) three) 2 (omega arith))) ∙ difference-of e h
+          go e h (suc (suc (suc i))) l = absurd (omega arith)
+
+      -- the first three of the array are these
+      pub seven-members : (first : List ℕ) (groups : List Group) (s : ℕ) → t ≡ take s groups → first ≡ firstVariables t
+          → T (every (between 1 s) (take 2 (c .groups))) → s ≤ limits .groups → (ms : List Member)
+          → ms ≡ set (firstOf (memberAt groups first) noMember (limits .members) 2 (c .groups)) 2 X → take 3 ms ≡ three
+      seven-members first groups s e f named many ms q =
+          let r = firstOf (memberAt groups first) noMember (limits .members) 2 (c .groups) in
+          let two : length (map (memberAt groups first) (take 2 (c .groups))) ≡ 2 = length-map (take 2 (c .groups)) (memberAt groups first) ∙ length-take 2 (c .groups) ∙ omega arith in
+          let long : length r ≡ limits .members =
+          length-append (map (memberAt groups first) (take 2 (c .groups))) (replicate (limits .members - 2) noMember) ∙ omega (arith, two, length-replicate {A = Member} (limits .members - 2) noMember) in
+          ap (take 3) q
+          ∙ take-set-next r 2 X (omega arith)
+          ∙ ap (λ (l : List Member). l ++ X ∷ [])
+          (first-front (memberAt groups first) noMember (limits .members) 2 (c .groups) (omega arith)
+          ∙ members-are groups first (c .groups) s 2 (f ∙ ap firstVariables e) named many
+          ∙ ap (λ (u : List Group). map (memberOf u) (take 2 (c .groups))) (sym e)
+          ∙ ap (map (memberOf t)) (take-places 0 (c .groups) 2 (omega arith)))
+
+-- ---- its clauses, one after the other
 
 each-places : {A B : Type 0} (f : A → List B) (d : A) (xs : List A) → each f xs ≡ each (λ j. f (getD xs j d)) (range 0 (length xs))
 each-places f d xs =
@@ -122,25 +179,26 @@ each-places f d xs =
     ∙ each-map f (λ j. getD xs (j - 0) d) (range 0 (length xs))
     ∙ each-range-ext (λ j. f (getD xs (j - 0) d)) (λ j. f (getD xs j d)) 0 (length xs) (λ j _ _. ap (λ (i : ℕ). f (getD xs i d)) (omega arith))
 
-module _ (t : List Group) (small : (g : ℕ) → firstVariable t g ≤ suc (limits .variables)) (c : Constraint) (k : ℕ) (wide : length (c .groups) ≡ limits .members)
-    (few : k ≤ limits .members) (w : MembersBelow k (c .code) (c .count)) (e : ℕ) (h : e < limits .entrants) where
+module _ (x : ℕ) (t : List Group) (c : Constraint) (ms : List Member) (k : ℕ) (says : Saying x t c ms k) (clear : isApart t c ≡ false)
+    (w : MembersBelow k (c .code) (c .count)) (e : ℕ) (h : e < limits .entrants) where
   abbrev keptAt : ℕ → List (List Literal)
-  keptAt j = keep (clauseTerms (map (memberNumber e) (map (memberOf t) (take k (c .groups)))) (c .code) (c .count) j)
+  keptAt j = keep (clauseTerms (map (memberNumber e) ms) (c .code) (c .count) j)
 
-  clause-is : (j : ℕ) → j < length (memberClauses (c .code) (c .count))
-      → keep (map (termOf t e) (map (ofGroup (c .groups)) (clauseOf (c .code) (c .count) j))) ≡ keptAt j
+  literal-is : (l : Literal) → variable l < k → termOf (constraintTerm x t c e) l ≡ literalTerm (map (memberNumber e) ms) l
+  literal-is (Pos i) l = sym (says .term e i h l)
+  literal-is (Neg i) l = ap oppositeTerm (sym (says .term e i h l))
+
+  clause-is : (j : ℕ) → j < length (memberClauses (c .code) (c .count)) → keep (map (termOf (constraintTerm x t c e)) (clauseOf (c .code) (c .count) j)) ≡ keptAt j
   unfolding clauseTerms
   clause-is j l =
       ap keep
-      (map-map (termOf t e) (ofGroup (c .groups)) (clauseOf (c .code) (c .count) j)
-      ∙ values-map (λ l. termOf t e (ofGroup (c .groups) l)) (literalTerm (numbers t small (c .groups) k e wide few h)) (Pos 0) (clauseOf (c .code) (c .count) j)
-      (λ i m. literal-is t small (c .groups) k e wide few h (getD (clauseOf (c .code) (c .count) j) i (Pos 0)) (w .below j i l m)))
+      (values-map (termOf (constraintTerm x t c e)) (literalTerm (map (memberNumber e) ms)) (Pos 0) (clauseOf (c .code) (c .count) j)
+      (λ i m. literal-is (getD (clauseOf (c .code) (c .count) j) i (Pos 0)) (w .below j i l m)))
 
-  -- its clauses, one after the other
-  pub entrant-is : clausesAt t c e ≡ each keptAt (range 0 (length (memberClauses (c .code) (c .count))))
-  unfolding clausesAt clausesOf clauseOf
+  pub entrant-is : clausesAt x t c e ≡ each keptAt (range 0 (length (memberClauses (c .code) (c .count))))
+  unfolding clausesAt clauseOf
   entrant-is =
-      each-map (λ ls. keep (map (termOf t e) ls)) (map (ofGroup (c .groups))) (memberClauses (c .code) (c .count))
-      ∙ each-places (λ ls. keep (map (termOf t e) (map (ofGroup (c .groups)) ls))) [] (memberClauses (c .code) (c .count))
-      ∙ each-range-ext (λ j. keep (map (termOf t e) (map (ofGroup (c .groups)) (clauseOf (c .code) (c .count) j)))) keptAt 0
-      (length (memberClauses (c .code) (c .count))) (λ j _ l. clause-is j (omega arith))
+      rw clear
+      (each-places (λ ls. keep (map (termOf (constraintTerm x t c e)) ls)) [] (memberClauses (c .code) (c .count))
+      ∙ each-range-ext (λ j. keep (map (termOf (constraintTerm x t c e)) (clauseOf (c .code) (c .count) j))) keptAt 0
+      (length (memberClauses (c .code) (c .count))) (λ j _ l. clause-is j (omega arith)))

@@ -45,6 +45,10 @@ memberAt groups first g = record {
 unfoldable pub memberOf : List Group → ℕ → Member
 memberOf t g = record { fixed = groupAt t g .fixed; possible = groupAt t g .possible; first = firstVariable t g }
 
+-- the X of a code 7 constraint, from x on: a member with nobody fixed, where those who have one are possible
+unfoldable pub differenceMember : ℕ → ℕ → Member
+differenceMember x o = record { fixed = 0; possible = o; first = x }
+
 -- ---- an entrant in a group, as one number
 
 abbrev pub absent : ℕ

@@ -2,13 +2,13 @@
 ghost use mathlib.Core.Path.{_≡_};
 ghost use mathlib.Core.List.{[], _∷_, _++_};
 ghost use Prim.Native.Nat.{_+_, _≤_, _<_};
-ghost use lib.ListN.{length, getD};
+ghost use lib.ListN.{length, getD, set};
 ghost use Rattle.model.specs.declared.Term.the-variants.{Fails};
 ghost use Rattle.model.specs.Lists.{every, any, each, range};
 ghost use Rattle.model.specs.Limits.{limits};
 ghost use Rattle.model.specs.Totalizer.{oppositeTerm, holds};
 ghost use Rattle.text.specs.Put.{Wrote, placed, placeAfter, termText, keptText};
-ghost use Rattle.terms.specs.Terms.{firstOf, noMember, placeOf, memberAt, absent, memberNumber, numberAt, isOpen, numberTerm, literalTerm, clauseOf, clauseTerms, goes};
+ghost use Rattle.terms.specs.Terms.{firstOf, noMember, placeOf, memberAt, differenceMember, absent, memberNumber, numberAt, isOpen, numberTerm, literalTerm, clauseOf, clauseTerms, goes};
 use model::Group;
 use model::Literal;
 use model::Model;
@@ -92,6 +92,26 @@ pub fn members(
         };
         i += 1;
     }
+    r
+}
+
+// The two groups of a code 7 constraint, and third its X: from x on, for the entrants o.
+pub fn difference_members(
+    groups: [Group; Model::GROUPS],
+    first: [u32; Model::GROUPS],
+    ids: [u32; Model::MEMBERS],
+    o: u64,
+    x: u32,
+) -> [Member; Model::MEMBERS]
+    ensures { λ r. ⌜ r ≡ set (firstOf (memberAt groups first) noMember (limits .members) 2 ids) 2 (differenceMember x o) ⌝ }
+    ensures { λ r. ⌜ length ids ≡ limits .members ⌝ }
+{
+    let mut r = members(groups, first, ids, 2);
+    r[2] = Member {
+        fixed: 0,
+        possible: o,
+        first: x,
+    };
     r
 }
 

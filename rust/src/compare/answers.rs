@@ -118,7 +118,7 @@ fn damage(random: &mut Random, line: &mut Vec<u8>) {
 }
 
 #[cfg(test)]
-mod tests {
+pub(super) mod tests {
     use super::super::{calls::settled, sheets};
     use super::*;
     use crate::close::close;
@@ -128,8 +128,24 @@ mod tests {
     use crate::sheet::read;
 
     /// The groups that a word spells, n bits each.
-    fn sets(model: &Model, word: u64) -> Vec<u64> {
+    pub fn sets(model: &Model, word: u64) -> Vec<u64> {
         (0..model.groups.len()).map(|index| word >> (index as u32 * model.entrants) & model.everyone()).collect()
+    }
+
+    /// Each draw is filled and closed on again; with at most so many variables the satisfying assignments are counted, too: as many as there are draws.
+    pub fn match_one_for_one(encoding: &Encoding, draws: &[Vec<u64>], most: usize) -> bool {
+        for draw in draws {
+            let mut marks = vec![0; encoding.variables];
+            assert_eq!(fill(encoding, draw, &mut marks), Ok(()));
+            assert_eq!(close(encoding, true, &marks).as_ref(), Ok(draw));
+        }
+        if encoding.variables > most {
+            return false;
+        }
+        let marks = |word: u32| (0..encoding.variables).map(|at| 1 + (word >> at & 1) as u8).collect::<Vec<u8>>();
+        let satisfying = (0..1 << encoding.variables).filter(|&word| close(encoding, true, &marks(word)).is_ok()).count();
+        assert_eq!(satisfying, draws.len());
+        true
     }
 
     /// Small sheets, all of whose draws and assignments can be gone through.
@@ -150,18 +166,8 @@ mod tests {
                 continue;
             };
             let encoding = Encoding::of(&settled);
-            for draw in &draws {
-                let mut marks = vec![0; encoding.variables];
-                assert_eq!(fill(&encoding, draw, &mut marks), Ok(()));
-                assert_eq!(close(&encoding, true, &marks).as_ref(), Ok(draw));
-                drawn += 1;
-            }
-            if encoding.variables <= 12 {
-                let marks = |word: u32| (0..encoding.variables).map(|at| 1 + (word >> at & 1) as u8).collect::<Vec<u8>>();
-                let satisfying = (0..1 << encoding.variables).filter(|&word| close(&encoding, true, &marks(word)).is_ok()).count();
-                assert_eq!(satisfying, draws.len());
-                counted += 1;
-            }
+            drawn += draws.len();
+            counted += usize::from(match_one_for_one(&encoding, &draws, 12));
         }
         assert!(drawn > 1_000 && counted > 1_000, "{drawn} draws, {counted} sheets gone through");
     }

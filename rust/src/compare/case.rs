@@ -2,6 +2,7 @@
 use super::blanks;
 use super::calls::{settled, Calls, Counterpart};
 use super::certificates::{self, CertificateCase};
+use super::code_7;
 use super::combining::{self, CombineCase, CombineWordsCase};
 use super::filling::{self, FillCase};
 use super::limits;
@@ -10,7 +11,7 @@ use super::steps;
 use super::twins::{self, TwinCase};
 use crate::encode::Encoding;
 use crate::listing::listing;
-use crate::model::GROUPS;
+use crate::model::{GROUPS, MOST_VARIABLES};
 use crate::refusal::*;
 use crate::settle::Settled;
 use crate::sheet::read;
@@ -65,7 +66,7 @@ pub const SAMPLE: Kind = "line: answers to the published samples";
 /// Every kind of case, in the order of the report. A run that misses one has failed.
 pub fn kinds() -> impl Iterator<Item = Kind> {
     let parts = filling::kinds().chain(limits::kinds()).chain([models::KINDS, certificates::KINDS, blanks::KINDS].into_iter().flatten().copied());
-    KINDS.iter().copied().chain(parts).chain(twins::kinds()).chain(steps::kinds()).chain(combining::kinds())
+    KINDS.iter().copied().chain(parts).chain(twins::kinds()).chain(steps::kinds()).chain(combining::kinds()).chain(code_7::KINDS.iter().copied())
 }
 
 const KINDS: &[Kind] = &[
@@ -112,6 +113,7 @@ const KINDS: &[Kind] = &[
     "line: v",
     "line: v with closing 0",
     "line: v with a thousand literals",
+    "line: v on as many marks as there can be",
     "line: v on marks longer than any listing's",
     "line: 10 empty or first byte",
     "line: 10 form",
@@ -211,7 +213,7 @@ pub fn check(case: &Case, other: &dyn Calls) -> Outcome {
 fn check_read(sheet: &[u8], other: &dyn Calls, outcome: &mut Outcome) {
     let answer = Counterpart.read(sheet);
     outcome.note(read_kind(sheet, answer));
-    blanks::met(sheet, answer).into_iter().for_each(|kind| outcome.note(kind));
+    blanks::met(sheet, answer).into_iter().chain(code_7::read(sheet, answer)).for_each(|kind| outcome.note(kind));
     outcome.compare("refusal * 65536 + line", answer, other.read(sheet));
 }
 
@@ -248,7 +250,7 @@ pub fn check_settle(sheet: &[u8], spare: isize, other: &dyn Calls, outcome: &mut
         }
     };
     if let (Ok(model), 0..) = (read(sheet), spare) {
-        limits::met(&model).into_iter().for_each(|kind| outcome.note(kind));
+        limits::met(&model).into_iter().chain(code_7::settling(&model)).for_each(|kind| outcome.note(kind));
     }
     let mut ours = junk_words(words.saturating_add_signed(spare));
     let mut theirs = ours.clone();
@@ -309,7 +311,8 @@ fn note_block(sheet: &[u8], block: u32, length: usize, spare: isize, outcome: &m
         outcome.note("block: 24 buffer a byte short");
         return;
     }
-    let groups = settled(sheet).map_or(0, |settled| settled.model().groups.len());
+    let Ok(settled) = settled(sheet) else { return };
+    let groups = settled.model().groups.len();
     outcome.note(match (block as usize, length) {
         (0, _) => "block: header",
         (block, 0) if block <= groups => "block: group without counter",
@@ -318,6 +321,7 @@ fn note_block(sheet: &[u8], block: u32, length: usize, spare: isize, outcome: &m
         _ => "block: line",
     });
     outcome.note(if spare > 0 { "block: buffer longer" } else { "block: buffer exactly long enough" });
+    code_7::block(&Encoding::of(&settled), block as usize).into_iter().for_each(|kind| outcome.note(kind));
 }
 
 /// Run after run, each side from where its own last run stopped.
@@ -346,8 +350,10 @@ fn check_blocks(sheet: &[u8], rooms: &[usize], other: &dyn Calls, outcome: &mut 
         }
     }
     if let (Ok(settled), true) = (settled(sheet), block > last) {
+        let encoding = Encoding::of(&settled);
         outcome.note("blocks: together the listing");
-        outcome.compare("the runs together", &listing(&Encoding::of(&settled)), &text);
+        outcome.kinds.extend(code_7::has_x(&encoding).then_some("different: blocks, together the listing"));
+        outcome.compare("the runs together", &listing(&encoding), &text);
     }
 }
 
@@ -378,7 +384,8 @@ fn line_kind(line: &[u8], answer: u32, closed: u32, length: usize) -> Kind {
         CLOSED => "line: 25 after the closing 0",
         _ if first != Some(&b'v') && closed == 1 => "line: c or s after the closing 0",
         _ if first != Some(&b'v') => "line: c or s",
-        _ if length > 49_152 => "line: v on marks longer than any listing's",
+        _ if length == MOST_VARIABLES => "line: v on as many marks as there can be",
+        _ if length > MOST_VARIABLES => "line: v on marks longer than any listing's",
         _ if line.iter().filter(|&&byte| byte == b' ').count() >= 1_000 => "line: v with a thousand literals",
         _ if answer & 1 == 1 => "line: v with closing 0",
         _ => "line: v",
@@ -390,6 +397,9 @@ fn check_close(sheet: &[u8], closed: bool, marks: &[u8], room: usize, other: &dy
     let mut theirs = ours.clone();
     let answer = Counterpart.close(sheet, closed.into(), marks, &mut ours);
     outcome.note(close_kind(sheet, closed, marks, answer));
+    if let Ok(settled) = settled(sheet) {
+        code_7::closing(&Encoding::of(&settled), closed, marks, answer).into_iter().for_each(|kind| outcome.note(kind));
+    }
     if room < GROUPS as usize && answer != SHORT_BUFFER {
         outcome.note("close: refused, table too short");
     }

@@ -2,6 +2,7 @@
 use super::blanks;
 use super::calls::{settled, Calls, Counterpart, Lent};
 use super::case::{junk, show_sheet, Kind, Outcome};
+use super::code_7;
 use super::random::Random;
 use super::search::{search, Found};
 use super::sheets;
@@ -148,6 +149,7 @@ impl CertificateCase {
         };
         outcome.note(kind);
         if kind.starts_with("certify: certified") {
+            outcome.kinds.extend(code_7::has_x(encoding).then_some("different: certified"));
             outcome.compare("whether a whole certificate is certified", check.certified, true);
         }
     }
@@ -179,10 +181,15 @@ fn roomy(live: usize) -> usize {
     live + live / 2 + 64
 }
 
-/// The cases made from one sheet, most of them where it has no draw.
+/// The cases made from one sheet.
 pub fn cases(random: &mut Random) -> Vec<CertificateCase> {
     let model = crowded(random);
-    let mut sheet = sheet::write(&model);
+    cases_of(random, &model)
+}
+
+/// The cases made from the sheet of a model, most of them where it has no draw. It has a line.
+pub fn cases_of(random: &mut Random, model: &Model) -> Vec<CertificateCase> {
+    let mut sheet = sheet::write(model);
     if random.chance(40) {
         sheet = blanks::some(random, &sheet);
     }
@@ -198,7 +205,7 @@ pub fn cases(random: &mut Random) -> Vec<CertificateCase> {
     for _ in 0..4 {
         cases.push(CertificateCase { certificate: tampered(random, &whole.certificate), origin: Origin::Tampered, ..whole.clone() });
     }
-    for sheet in [sheet::write(&looser(random, &model)), small(random), sheets::damaged(random, &whole.sheet)] {
+    for sheet in [sheet::write(&looser(random, model)), small(random), sheets::damaged(random, &whole.sheet)] {
         cases.push(CertificateCase { sheet, origin: Origin::OtherSheet, ..whole.clone() });
     }
     cases

@@ -2,6 +2,7 @@
 use super::blanks;
 use super::calls::{combined, combined_words, Calls, Counterpart};
 use super::case::{check_settle, junk, junk_words, show_sheet, Case, Kind, Outcome};
+use super::code_7;
 use super::filling::{self, marks_length};
 use super::models::{damage, place};
 use super::random::Random;
@@ -244,7 +245,12 @@ impl CombineCase {
         note(number == SHORT_BUFFER && room == 0, "combine: 24 no buffer");
         note(![0, SHORT_BUFFER].contains(&number) && room == 0, "combine: refused, no buffer");
         match (first, second) {
-            (Ok(first), Ok(second)) => met(&first, &second).into_iter().for_each(|name| note_both(name, 0, outcome)),
+            (Ok(first), Ok(second)) => {
+                met(&first, &second).into_iter().for_each(|name| note_both(name, 0, outcome));
+                if number == 0 {
+                    code_7::combined(&first, &second, &self.groups).into_iter().for_each(|kind| outcome.note(kind));
+                }
+            }
             (Err(_), Ok(_)) => outcome.note("combine: first sheet refused"),
             (Ok(_), Err(_)) => outcome.note("combine: second sheet refused"),
             (Err(one), Err(other)) => {
@@ -355,6 +361,9 @@ impl CombineWordsCase {
             self.note_ignored(&[&first, &second], outcome);
         }
         met(&first, &second).into_iter().for_each(|name| note_both(name, 1, outcome));
+        if answer == 0 {
+            code_7::combined_words(&self.words, [&first, &second]).into_iter().for_each(|kind| outcome.note(kind));
+        }
     }
 
     /// What stands in words that are ignored.
@@ -424,23 +433,28 @@ fn behind_20(first: &[u64], second: &[u64]) -> Option<u32> {
     (one[2] + other[2] > LINES).then_some(TOO_MANY_LINES)
 }
 
-/// The cases made from one pair.
-pub fn cases(random: &mut Random) -> Vec<Case> {
-    let pair = pair(random);
-    let sheets = Case::Combine(sheets_case(random, &pair));
+/// The cases made from one pair; `sevens`: of a hundred lines so many have code 7.
+pub fn cases(random: &mut Random, sevens: usize) -> Vec<Case> {
+    let pair = pair(random, sevens);
+    cases_of(random, &pair)
+}
+
+/// The cases made from a pair as it is.
+pub fn cases_of(random: &mut Random, pair: &Pair) -> Vec<Case> {
+    let sheets = Case::Combine(sheets_case(random, pair));
     let mut cases = vec![sheets.clone()];
     if random.chance(20) {
         cases.push(Case::Twins(TwinCase::new(random, sheets)));
     }
     for _ in 0..2 {
-        cases.push(Case::CombineWords(words_case(random, &pair)));
+        cases.push(Case::CombineWords(words_case(random, pair)));
     }
     cases
 }
 
 /// Two sheets, for the most part accepted.
-pub fn sheets(random: &mut Random) -> [Vec<u8>; 2] {
-    let pair = pair(random);
+pub fn sheets(random: &mut Random, sevens: usize) -> [Vec<u8>; 2] {
+    let pair = pair(random, sevens);
     sheets_case(random, &pair).sheets
 }
 
@@ -478,15 +492,15 @@ fn words_case(random: &mut Random, pair: &Pair) -> CombineWordsCase {
 }
 
 /// A pair that fits, or two that know nothing of each other, changed in up to three ways.
-fn pair(random: &mut Random) -> Pair {
-    let mut pair = sheets::pair(random);
+fn pair(random: &mut Random, sevens: usize) -> Pair {
+    let mut pair = sheets::pair(random, sevens);
     for _ in 0..random.pick(&[0, 1, 1, 1, 2, 2, 3]) {
-        change(random, &mut pair);
+        change(random, &mut pair, sevens);
     }
     pair
 }
 
-fn change(random: &mut Random, pair: &mut Pair) {
+fn change(random: &mut Random, pair: &mut Pair, sevens: usize) {
     let at = random.below(2);
     let (n, s) = (pair.models[0].entrants.min(pair.models[1].entrants), pair.models[0].groups.len().min(pair.models[1].groups.len()));
     let index = end_or_any(random, s);
@@ -505,7 +519,7 @@ fn change(random: &mut Random, pair: &mut Pair) {
             pair.models[at].groups[index] = Group { low: below.low.min(high), high, ..below };
             pair.models[1 - at].groups[index] = Group { low, high: above.high.max(low).max(high + 1), ..above };
         }
-        4 | 5 => many_lines(random, pair),
+        4 | 5 => many_lines(random, pair, sevens),
         6 => another_n(random, &mut pair.models[at]),
         7 => another_s(&mut pair.models[at]),
         8 => a_union(random, &mut pair.models[at]),
@@ -525,13 +539,13 @@ fn open_group(entrants: u32) -> Group {
 }
 
 /// About 256 lines in all.
-fn many_lines(random: &mut Random, pair: &mut Pair) {
+fn many_lines(random: &mut Random, pair: &mut Pair, sevens: usize) {
     let many = random.pick(&[(128, 128), (256, 0), (0, 256), (129, 128), (256, 1), (1, 256), (255, 2), (256, 256)]);
     for (model, many) in pair.models.iter_mut().zip([many.0, many.1]) {
         if model.groups.len() < 2 {
             model.groups.push(open_group(model.entrants));
         }
-        let new: Vec<Constraint> = (0..3).filter_map(|_| sheets::line(random, model.groups.len())).collect();
+        let new: Vec<Constraint> = (0..3).filter_map(|_| sheets::line(random, model.groups.len(), sevens)).collect();
         let old = if model.constraints.is_empty() { new } else { model.constraints.clone() };
         model.constraints = (0..many).map(|_| random.pick(&old)).collect();
     }

@@ -1,6 +1,7 @@
 //! Groups to fill from: draws, and draws with one thing changed, on as many marks as there are variables or not.
 use super::calls::{settled, Calls, Counterpart};
 use super::case::{junk, junk_words, show_sheet, Kind, Outcome};
+use super::code_7;
 use super::random::Random;
 use crate::encode::Encoding;
 use crate::model::*;
@@ -30,16 +31,17 @@ pub enum Origin {
     AnySets,
 }
 
-/// The largest V, by the paper.
-const MOST_VARIABLES: usize = 49_152;
+/// The largest V without lines of code 7.
+const MOST_WITHOUT_CODE_7: usize = 49_152;
 
-const BY_CODE: [Kind; 6] = [
+const BY_CODE: [Kind; 7] = [
     "fill: 30 by code 1 alone",
     "fill: 30 by code 2 alone",
     "fill: 30 by code 3 alone",
     "fill: 30 by code 4 alone",
     "fill: 30 by code 5 alone",
     "fill: 30 by code 6 alone",
+    "fill: 30 by code 7 alone",
 ];
 
 /// The other kinds of the cases made here, before those by code, in the order of the report.
@@ -48,6 +50,7 @@ const KINDS: &[Kind] = &[
     "fill: open marks and no counter",
     "fill: no variables",
     "fill: as many variables as there can be",
+    "fill: as many variables as without code 7",
     "fill: a change that leaves a draw",
     "fill: words missing, their groups empty",
     "fill: words past s ignored",
@@ -114,10 +117,12 @@ impl FillCase {
         note(!counted && encoding.variables > 0, "fill: open marks and no counter");
         note(encoding.variables == 0, "fill: no variables");
         note(encoding.variables == MOST_VARIABLES, "fill: as many variables as there can be");
+        note(encoding.variables == MOST_WITHOUT_CODE_7, "fill: as many variables as without code 7");
         note(!matches!(self.origin, Origin::Draw | Origin::AnySets), "fill: a change that leaves a draw");
         note(self.groups.len() < s, "fill: words missing, their groups empty");
         note(self.groups.len() > s, "fill: words past s ignored");
         note(self.groups.len() > GROUPS as usize, "fill: words past 256 ignored");
+        code_7::filled(&encoding).into_iter().for_each(|kind| outcome.note(kind));
     }
 
     fn note_no_draw(&self, settled: &Settled, length: usize, outcome: &mut Outcome) {
@@ -206,7 +211,7 @@ pub fn case(random: &mut Random, sheet: Vec<u8>, draw: Option<&[u64]>) -> FillCa
     FillCase { sheet, groups, origin, spare: spare(random) }
 }
 
-/// The case with as many variables as there can be: a ring of unions of sixteen, whose groups are all the same.
+/// The largest sheet, with as many variables as there can be without lines of code 7: a ring of unions of sixteen, whose groups are all the same.
 pub fn largest(random: &mut Random) -> FillCase {
     let group = Group { fixed: 0, possible: (1 << ENTRANTS) - 1, low: 1, high: ENTRANTS - 1 };
     let ring = |first: usize| Constraint { code: 6, groups: (first..=first + UNION_MAX as usize).map(|at| at % GROUPS as usize).collect() };
@@ -312,9 +317,9 @@ mod tests {
     }
 
     #[test]
-    fn the_largest_has_as_many_variables_as_there_can_be() {
+    fn the_largest_has_as_many_variables_as_there_can_be_without_code_7() {
         let case = largest(&mut Random(22));
-        assert_eq!(marks_length(settled(&case.sheet).as_ref().ok(), 0), MOST_VARIABLES);
+        assert_eq!(marks_length(settled(&case.sheet).as_ref().ok(), 0), MOST_WITHOUT_CODE_7);
         assert_eq!(case.sheet.len(), SHEET_BYTES);
     }
 }

@@ -3,7 +3,7 @@ use super::case::Kind;
 use super::random::Random;
 use super::sheets::Sample;
 use crate::model::*;
-use crate::settle::{clause_rules, contradictory, group_rules, settle, Settled};
+use crate::settle::{contradictory, group_rules, mark_rules, settle, Settled};
 use crate::sheet;
 use crate::words::from_words;
 
@@ -50,7 +50,7 @@ fn marks_pass(model: &mut Model) -> bool {
     let everyone = model.everyone();
     let mut changed = group_rules(&mut model.groups);
     for line in &model.constraints {
-        changed |= clause_rules(everyone, &mut model.groups, line);
+        changed |= mark_rules(everyone, &mut model.groups, line);
     }
     changed
 }
@@ -58,13 +58,14 @@ fn marks_pass(model: &mut Model) -> bool {
 /// The groups as they would settle if no limit passed from group to group; none where that is 21 too.
 pub fn by_marks(model: &Model) -> Option<Vec<Group>> {
     let mut model = model.clone();
-    while marks_pass(&mut model) && !model.groups.iter().any(contradictory) {}
-    (!model.groups.iter().any(contradictory)).then_some(model.groups)
+    let out = |model: &Model| contradictory(&model.groups, &model.constraints);
+    while marks_pass(&mut model) && !out(&model) {}
+    (!out(&model)).then_some(model.groups)
 }
 
 /// Whether a limit that passes along a line is all that a pass would change in a model's words.
 pub fn unsettled_alone(words: &[u64]) -> bool {
-    from_words(words).is_ok_and(|mut model| !marks_pass(&mut model) && Settled::given(model).is_err())
+    from_words(words).is_ok_and(|mut model| !marks_pass(&mut model) && !contradictory(&model.groups, &model.constraints) && Settled::given(model).is_err())
 }
 
 /// What limits did in the settling of a model, beyond what marks did.
@@ -129,7 +130,7 @@ impl Travel<'_> {
     /// The kind of the lines' one code.
     fn by_code(&self, kinds: &[Kind; 6], several: Kind) -> Kind {
         match self.lines {
-            [first, rest @ ..] if rest.iter().all(|line| line.code == first.code) => kinds[first.code as usize - 1],
+            [first, rest @ ..] if rest.iter().all(|line| line.code == first.code) => kinds.get(first.code as usize - 1).copied().unwrap_or(several),
             _ => several,
         }
     }

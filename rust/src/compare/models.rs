@@ -1,6 +1,7 @@
 //! Models as words, whole and damaged in one word, for settling, a block, closing, filling and the model's sheet.
 use super::calls::{given, Calls, Counterpart};
 use super::case::{junk, junk_words, Kind, Outcome};
+use super::code_7;
 use super::filling::{self, marks_length, Origin};
 use super::limits::{unsettled_alone, widened};
 use super::random::Random;
@@ -123,6 +124,7 @@ impl ModelCase {
         if let Some(kind) = self.damaged.and_then(|place| damage_kind(&self.words, place)) {
             outcome.note(kind);
         }
+        code_7::words(&self.words, self.damaged).into_iter().for_each(|kind| outcome.note(kind));
         match &self.call {
             Call::Settle { room } => self.check_settle(*room, other, outcome),
             Call::Block { block, spare } => self.check_block(*block, *spare, other, outcome),
@@ -145,6 +147,7 @@ impl ModelCase {
             CONTRADICTION => "model: 21 of settling",
             _ => "model: 24 of settling",
         });
+        outcome.kinds.extend(code_7::settled_words(&self.words, (answer >> 16) as u32));
         outcome.compare("refusal * 65536 + passes", answer, other.settle_model(&self.words, &mut theirs));
         outcome.compare_bytes("table", &ours, &theirs);
     }
@@ -162,6 +165,7 @@ impl ModelCase {
             NO_BLOCK => "model: 23 of a block",
             _ => "model: 24 of a block",
         });
+        outcome.kinds.extend(code_7::taken_words(&self.words, code_7::Call::Block(block as usize), (answer >> 32) as u32));
         outcome.compare("refusal * 2^32 + length", answer, other.block_model(&self.words, block, &mut theirs));
         outcome.compare_bytes("buffer", &ours, &theirs);
     }
@@ -177,6 +181,7 @@ impl ModelCase {
             UNSETTLED => "model: 22 of closing",
             _ => "model: 26, 27 or 28 of closing",
         });
+        outcome.kinds.extend(code_7::taken_words(&self.words, code_7::Call::Close, answer));
         outcome.compare("refusal", answer, other.close_model(&self.words, closed.into(), marks, &mut theirs));
         outcome.compare_bytes("groups", &ours, &theirs);
     }
@@ -196,6 +201,7 @@ impl ModelCase {
             NO_DRAW => "model: 30 of filling",
             _ => "model: 26 of filling",
         });
+        outcome.kinds.extend(code_7::taken_words(&self.words, code_7::Call::Fill, answer));
         outcome.compare("refusal", answer, other.fill_model(&self.words, groups, &mut theirs));
         outcome.compare_bytes("marks", &ours, &theirs);
     }
@@ -211,6 +217,7 @@ impl ModelCase {
             OUT_OF_RANGE => "model: 20 of a sheet",
             _ => "model: 24 of a sheet",
         });
+        outcome.kinds.extend(code_7::written_words(&self.words, (answer >> 32) as u32));
         outcome.compare("refusal * 2^32 + length", answer, other.write_model(&self.words, &mut theirs));
         outcome.compare_bytes("buffer", &ours, &theirs);
     }
@@ -230,19 +237,29 @@ pub fn case(random: &mut Random, sheet: &[u8], draw: Option<&[u64]>) -> Option<M
         Some(settled) if random.chance(75) => settled.model().clone(),
         _ => read,
     };
-    let mut words = to_words(&model, random.pick(&[0, 0, 1, u64::MAX]));
-    let damaged = random.chance(50).then(|| place(random, &model));
+    Some(of_model(random, &model, draw))
+}
+
+/// A case on a model, often with one word changed.
+pub fn of_model(random: &mut Random, model: &Model, draw: Option<&[u64]>) -> ModelCase {
+    let mut words = to_words(model, random.pick(&[0, 0, 1, u64::MAX]));
+    let damaged = random.chance(50).then(|| place(random, model));
     if let Some(place) = damaged {
         words[place] = damage(random, words[place]);
     }
+    of_words(random, model, words, damaged, draw)
+}
+
+/// A case on the words of a model, of which one may be changed.
+pub fn of_words(random: &mut Random, model: &Model, words: Vec<u64>, damaged: Option<usize>, draw: Option<&[u64]>) -> ModelCase {
     let call = match random.below(5) {
         0 => Call::Settle { room: (4 * model.groups.len()).saturating_add_signed(random.pick(&[0, 0, -1, 5])) },
         1 => Call::Block { block: random.below(model.groups.len() + model.constraints.len() + 2) as u32, spare: random.pick(&[0, 0, -1, 9]) },
         2 => Call::Write { spare: random.pick(&[0, 0, -1, 9]) },
-        3 => filling(random, &model, draw),
+        3 => filling(random, model, draw),
         _ => closing(random, &words, draw),
     };
-    Some(ModelCase { words, damaged, call })
+    ModelCase { words, damaged, call }
 }
 
 fn closing(random: &mut Random, words: &[u64], draw: Option<&[u64]>) -> Call {

@@ -4,6 +4,7 @@ use super::blanks;
 use super::calls::settled;
 use super::case::{Case, Kind};
 use super::combining::{self, CombineCase};
+use super::differences;
 use super::limits;
 use super::random::Random;
 use super::sheets;
@@ -160,12 +161,14 @@ fn same_lines(printed: &str, wanted: &str) -> bool {
     reports.len() == wanted.lines().count() && reports.iter().zip(wanted.lines()).all(agree)
 }
 
-/// A sheet, valid, with blank marks or damaged, with an answer and groups for it.
+/// A sheet, valid, with blank marks, with lines of code 7 or damaged, with an answer and groups for it.
 fn sample(random: &mut Random) -> Input {
-    let pair = combining::sheets(random);
+    let sevens = random.pick(&[0, 0, 30]);
+    let pair = combining::sheets(random, sevens);
     let mut sample = match random.below(20) {
         0..=2 => limits::sample(random),
         3..=5 => blanks::sample(random),
+        6..=9 => differences::sample(random),
         _ => sheets::valid(random),
     };
     if random.chance(30) {

@@ -5,7 +5,7 @@ use super::random::Random;
 use super::sheets::Sample;
 use super::shrink::shrink;
 use super::twins::TwinCase;
-use super::{answers, blanks, certificates, combining, filling, limits, models, samples, sheets, steps};
+use super::{answers, blanks, certificates, combining, differences, filling, limits, models, samples, sheets, steps};
 use crate::encode::Encoding;
 use crate::fill::assignment;
 use crate::listing::listing;
@@ -23,8 +23,9 @@ pub struct Tally {
 /// Compares until so many calls are made. `say` gets what there is to print.
 pub fn run(other: &dyn Calls, seed: u64, calls: u64, say: &mut dyn FnMut(&str)) -> Tally {
     let mut random = Random(seed);
-    // pairs of sheets have numbers of their own, so that the other cases stay what they were
+    // pairs of sheets, and sheets with lines of code 7, have numbers of their own, so that the other cases stay what they were
     let mut of_pairs = Random(!seed);
+    let mut of_differences = Random(seed.rotate_left(32));
     let mut tally = Tally::default();
     for case in samples::cases() {
         take(&case, other, &mut tally, say);
@@ -35,8 +36,9 @@ pub fn run(other: &dyn Calls, seed: u64, calls: u64, say: &mut dyn FnMut(&str)) 
     }
     let mut next_word = Instant::now() + Duration::from_secs(3);
     while tally.calls < calls {
-        let pairs = if of_pairs.chance(30) { combining::cases(&mut of_pairs) } else { Vec::new() };
-        for case in batch(&mut random).into_iter().chain(pairs) {
+        let pairs = if of_pairs.chance(30) { combining::cases(&mut of_pairs, 0) } else { Vec::new() };
+        let differences = if of_differences.chance(30) { differences::cases(&mut of_differences) } else { Vec::new() };
+        for case in batch(&mut random).into_iter().chain(pairs).chain(differences) {
             take(&case, other, &mut tally, say);
         }
         if Instant::now() >= next_word {
@@ -158,7 +160,7 @@ fn blanks_batch(random: &mut Random) -> Vec<Case> {
 }
 
 /// The cases, and each beside a twin of its sheet.
-fn with_twins(random: &mut Random, mut cases: Vec<Case>) -> Vec<Case> {
+pub fn with_twins(random: &mut Random, mut cases: Vec<Case>) -> Vec<Case> {
     let twins: Vec<Case> = cases.iter().map(|case| Case::Twins(TwinCase::new(random, case.clone()))).collect();
     cases.extend(twins);
     cases
@@ -178,7 +180,7 @@ fn damaged_batch(random: &mut Random, sheet: &[u8]) -> Vec<Case> {
     cases
 }
 
-fn block_case(random: &mut Random, sheet: &[u8]) -> Case {
+pub fn block_case(random: &mut Random, sheet: &[u8]) -> Case {
     let blocks = settled(sheet).map_or(3, |settled| Encoding::of(&settled).blocks()) as u32;
     let block = match random.below(10) {
         0 => 0,
@@ -190,7 +192,7 @@ fn block_case(random: &mut Random, sheet: &[u8]) -> Case {
 }
 
 /// Runs with buffers about as long as a few blocks, and one that takes the rest.
-fn blocks_case(random: &mut Random, sheet: &[u8]) -> Case {
+pub fn blocks_case(random: &mut Random, sheet: &[u8]) -> Case {
     let length = settled(sheet).map_or(100, |settled| listing(&Encoding::of(&settled)).len());
     let few = (length / random.from_to(1, 6)).max(1);
     let mut rooms: Vec<usize> = (0..random.from_to(1, 4)).map(|_| random.below(few + 1)).collect();
@@ -209,7 +211,7 @@ fn lines_case(random: &mut Random) -> Case {
     Case::Lines { marks: answers::fresh(random, length), lines }
 }
 
-fn close_case(random: &mut Random, sheet: Vec<u8>, draw: Option<&[u64]>) -> Case {
+pub fn close_case(random: &mut Random, sheet: Vec<u8>, draw: Option<&[u64]>) -> Case {
     let mut marks = match settled(&sheet) {
         Ok(settled) => match (Encoding::of(&settled), draw) {
             (encoding, Some(draw)) => assignment(&encoding, draw),
@@ -238,11 +240,12 @@ fn close_case(random: &mut Random, sheet: Vec<u8>, draw: Option<&[u64]>) -> Case
 #[cfg(test)]
 mod tests {
     use super::super::calls::{combined, Counterpart, Lent};
+    use super::super::code_7;
     use super::*;
     use crate::model::Model;
     use crate::sheet::{read, write};
     use crate::steps::{counters, dropped, form, put_in, Node, Printed, Value};
-    use crate::words::{from_words, group_at, FIRST_GROUP};
+    use crate::words::{from_words, group_at, FIRST_GROUP, FIRST_LINE};
 
     const CALLS: u64 = 20_000;
 
@@ -254,7 +257,7 @@ mod tests {
 
     #[test]
     fn no_difference_from_itself_and_every_kind_is_met() {
-        let (tally, text) = outcome(&Counterpart, 2 * CALLS);
+        let (tally, text) = outcome(&Counterpart, 3 * CALLS);
         assert!(tally.failed.is_empty(), "{text}");
         for kind in kinds() {
             assert!(tally.met.contains_key(kind), "never met: {kind}");
@@ -756,5 +759,195 @@ mod tests {
             answer
         };
         is_caught(Broken { combine, ..SOUND }, "combine: 24 buffer a byte short", "buffer at 0");
+    }
+
+    /// What the reader did before: code 7 was 6.
+    #[test]
+    fn a_reader_that_refuses_code_7_is_caught_with_the_smallest_sheet() {
+        let read = |sheet: &[u8]| {
+            let mut lines = sheet.split(|&byte| byte == b'\n');
+            match (Counterpart.read(sheet), lines.position(|line| line.starts_with(b"   3   7"))) {
+                (0, Some(before)) => 6 << 16 | (before as u64 + 1),
+                (answer, _) => answer,
+            }
+        };
+        is_caught(Broken { read, ..SOUND }, "different: read", DIFFERENT);
+    }
+
+    /// The smallest sheet with an X, up to its groups.
+    const DIFFERENT: &str = "\n   1   1   2   1\n   2   1   0   1   1\n   2   2   0   1   1\n   3   7   ";
+
+    /// A block after a change of its clauses, told whether it is that of a line of code 7.
+    fn with_clauses(sheet: &[u8], block: u32, buffer: &mut [u8], change: fn(&Encoding, bool, &mut Vec<Vec<i32>>)) -> u64 {
+        let Ok(settled) = settled(sheet) else { return Counterpart.block(sheet, block, buffer) };
+        let (model, encoding) = (settled.model(), Encoding::of(&settled));
+        if !(1..=encoding.blocks()).contains(&(block as usize)) {
+            return Counterpart.block(sheet, block, buffer);
+        }
+        let line = (block as usize).checked_sub(model.groups.len() + 1).map(|index| &model.constraints[index]);
+        let mut clauses = Vec::new();
+        encoding.each_clause(block as usize, &mut |clause| clauses.push(clause.to_vec()));
+        change(&encoding, line.is_some_and(|line| line.code == 7), &mut clauses);
+        let text = steps::text(&clauses);
+        match buffer.get_mut(..text.len()) {
+            Some(start) => start.copy_from_slice(text.as_bytes()),
+            None => return 24 << 32,
+        }
+        text.len() as u64
+    }
+
+    /// The last variable that is no X.
+    fn before_x(encoding: &Encoding) -> i32 {
+        let lines = 0..encoding.settled.model().constraints.len();
+        encoding.variables as i32 - lines.map(|index| encoding.each_x(index).count() as i32).sum::<i32>()
+    }
+
+    #[test]
+    fn an_x_that_says_equal_is_caught() {
+        let block = |sheet: &[u8], block, buffer: &mut [u8]| {
+            with_clauses(sheet, block, buffer, |encoding, seven, clauses| {
+                let ties = if seven { clauses.len().saturating_sub(1) } else { 0 };
+                let literals = clauses[..ties].iter_mut().flatten();
+                literals.filter(|literal| literal.abs() > before_x(encoding)).for_each(|literal| *literal = -*literal);
+            })
+        };
+        is_caught(Broken { block, ..SOUND }, "different: block, open in both", DIFFERENT);
+    }
+
+    #[test]
+    fn a_last_clause_that_is_missing_is_caught() {
+        let block = |sheet: &[u8], block, buffer: &mut [u8]| {
+            with_clauses(sheet, block, buffer, |_, seven, clauses| clauses.truncate(clauses.len().saturating_sub(seven.into())))
+        };
+        is_caught(Broken { block, ..SOUND }, "different: block, last clause of one X", DIFFERENT);
+    }
+
+    #[test]
+    fn a_last_clause_in_falling_order_is_caught() {
+        let block = |sheet: &[u8], block, buffer: &mut [u8]| {
+            with_clauses(sheet, block, buffer, |_, seven, clauses| clauses.iter_mut().rev().take(seven.into()).for_each(|clause| clause.reverse()))
+        };
+        let smallest = "\n   1   2   2   1\n   2   1   0   2   1   1\n   2   2   0   2   1   1\n   3   7   ";
+        is_caught(Broken { block, ..SOUND }, "different: block, last clause of 32 X", smallest);
+    }
+
+    #[test]
+    fn x_numbered_before_the_counters_are_caught() {
+        let block = |sheet: &[u8], block, buffer: &mut [u8]| {
+            with_clauses(sheet, block, buffer, |encoding, _, clauses| {
+                let groups = &encoding.settled.model().groups;
+                let (all, before) = (encoding.variables as i32, before_x(encoding));
+                let open = groups.iter().map(|group| group.open().count_ones() as i32).sum::<i32>();
+                let moved = |variable: i32| match variable {
+                    _ if variable > before => variable - (before - open),
+                    _ if variable > open => variable + (all - before),
+                    _ => variable,
+                };
+                clauses.iter_mut().flatten().for_each(|literal| *literal = literal.signum() * moved(literal.abs()));
+            })
+        };
+        is_caught(Broken { block, ..SOUND }, "different: block, X after counters", "difference in block: ");
+    }
+
+    #[test]
+    fn a_rule_that_acts_with_two_entrants_left_is_caught() {
+        let settle = |sheet: &[u8], table: &mut [u64]| {
+            let answer = Counterpart.settle(sheet, table);
+            let (0, Ok(settled)) = (answer >> 16, settled(sheet)) else { return answer };
+            let model = settled.model();
+            for (line, pair) in model.constraints.iter().filter_map(|line| Some((line, line.different(&model.groups)?))) {
+                let left = pair.not_alike();
+                let first = left & left.wrapping_neg();
+                if left.count_ones() == 2 && pair.differing() == 0 && pair.g.open() & !pair.f.open() & first != 0 {
+                    table[4 * line.groups[1]] |= first & !pair.f.possible;
+                    table[4 * line.groups[1] + 1] &= !(first & pair.f.fixed);
+                }
+            }
+            answer
+        };
+        is_caught(Broken { settle, ..SOUND }, "different: settle, all alike but two", "difference in settle: ");
+    }
+
+    #[test]
+    fn settling_that_does_not_say_21_where_all_are_alike_is_caught() {
+        let settle = |sheet: &[u8], table: &mut [u64]| match (Counterpart.settle(sheet, table), read(sheet)) {
+            (answer, Ok(mut model)) if answer >> 16 == 21 => {
+                model.constraints.retain(|line| line.code != 7);
+                crate::settle::settle(model).map_or(answer, |settled| settled.passes().into())
+            }
+            (answer, _) => answer,
+        };
+        is_caught(Broken { settle, ..SOUND }, "different: settle, 21 alike on the sheet", "difference in settle: 21");
+    }
+
+    #[test]
+    fn a_table_that_stands_alike_and_is_listed_is_caught() {
+        let block_model = |words: &[u64], block, buffer: &mut [u8]| match Counterpart.block_model(words, block, buffer) {
+            answer if code_7::taken_words(words, code_7::Call::Block(0), (answer >> 32) as u32) == Some("different: model, 22 of a block, alike") => 0,
+            answer => answer,
+        };
+        is_caught(Broken { block_model, ..SOUND }, "different: model, 22 of a block, alike", "of a model");
+    }
+
+    #[test]
+    fn a_count_of_code_7_that_is_judged_is_caught() {
+        let settle_model = |words: &[u64], table: &mut [u64]| match code_7::words(words, None).contains(&"different: model, a count of code 7") {
+            true => 20 << 16,
+            false => Counterpart.settle_model(words, table),
+        };
+        is_caught(Broken { settle_model, ..SOUND }, "different: model, a count of code 7", "of a model");
+    }
+
+    #[test]
+    fn filling_that_leaves_every_x_false_is_caught() {
+        let fill = |sheet: &[u8], groups: &[u64], marks: &mut [u8]| {
+            let answer = Counterpart.fill(sheet, groups, marks);
+            if let (0, Ok(settled)) = (answer, settled(sheet)) {
+                let encoding = Encoding::of(&settled);
+                (0..settled.model().constraints.len()).flat_map(|index| encoding.each_x(index)).for_each(|(_, x)| marks[x as usize - 1] = 2);
+            }
+            answer
+        };
+        is_caught(Broken { fill, ..SOUND }, "different: fill, one line with X", "marks at");
+    }
+
+    #[test]
+    fn filling_from_groups_that_are_the_same_is_caught() {
+        let fill = |sheet: &[u8], groups: &[u64], marks: &mut [u8]| match Counterpart.fill(sheet, groups, marks) {
+            30 if settled(sheet).is_ok_and(|settled| settled.model().constraints.iter().all(|line| line.code != 7 || !line.is_true(groups))) => 0,
+            answer => answer,
+        };
+        is_caught(Broken { fill, ..SOUND }, "fill: 30 by code 7 alone", "difference in fill: 30");
+    }
+
+    #[test]
+    fn closing_that_forgets_the_last_clause_is_caught() {
+        let close = |sheet: &[u8], closed, marks: &[u8], groups: &mut [u64]| match (Counterpart.close(sheet, closed, marks, groups), settled(sheet)) {
+            (28, Ok(settled)) if code_7::closing(&Encoding::of(&settled), true, marks, 28) == Some("different: close, 28 last clause alone") => 0,
+            (answer, _) => answer,
+        };
+        is_caught(Broken { close, ..SOUND }, "different: close, 28 last clause alone", "difference in close: 28");
+    }
+
+    #[test]
+    fn combining_that_makes_equal_of_different_is_caught() {
+        let combine = |first: &[u8], second: &[u8], buffer: &mut [u8]| {
+            combined_with(first, second, buffer, |_, _, model| {
+                model.constraints.iter_mut().filter(|line| line.code == 7).for_each(|line| line.code = 1);
+            })
+        };
+        is_caught(Broken { combine, ..SOUND }, "different: combine, lines in the first alone", "   3   7   ");
+    }
+
+    #[test]
+    fn a_count_of_code_7_that_is_combined_too_is_caught() {
+        let combine_model = |first: &[u64], second: &[u64], words: &mut [u64]| {
+            combined_words_with(first, second, words, |words| {
+                if words[FIRST_LINE] == 7 {
+                    words[FIRST_LINE + 1] = first.get(FIRST_LINE + 1).copied().unwrap_or(0);
+                }
+            })
+        };
+        is_caught(Broken { combine_model, ..SOUND }, "different: combine words, a count of code 7", "words at 1028");
     }
 }

@@ -15,11 +15,23 @@ struct Size {
     lines: usize,
 }
 
+/// A sheet with lines of codes 1 to 6.
 pub fn valid(random: &mut Random) -> Sample {
+    sample(random, 0)
+}
+
+/// A sheet with lines of code 7 among the others.
+pub fn with_code_7(random: &mut Random) -> Sample {
+    let sevens = random.pick(&[10, 40, 100]);
+    sample(random, sevens)
+}
+
+/// `sevens`: of a hundred lines so many have code 7.
+fn sample(random: &mut Random, sevens: usize) -> Sample {
     let size = size(random);
     let planted = random.chance(60);
     let mut sets: Vec<u64> = (0..size.groups).map(|_| random_set(random, size.entrants)).collect();
-    let constraints = lines(random, &size, &mut sets, planted);
+    let constraints = lines(random, &size, &mut sets, planted, sevens);
     let style = Style::any(random);
     let groups = sets.iter().map(|&set| style.group(random, size.entrants, set, planted)).collect();
     let model = Model { entrants: size.entrants, groups, constraints };
@@ -33,7 +45,7 @@ pub struct Pair {
 }
 
 /// Constraint lines go to the one or to the other; each has marks and limits of its own.
-pub fn pair(random: &mut Random) -> Pair {
+pub fn pair(random: &mut Random, sevens: usize) -> Pair {
     let mut size = size(random);
     match random.below(50) {
         0 => (size.entrants, size.groups) = (ENTRANTS, GROUPS as usize),
@@ -43,7 +55,7 @@ pub fn pair(random: &mut Random) -> Pair {
     }
     let planted = random.chance(60);
     let mut sets: Vec<u64> = (0..size.groups).map(|_| random_set(random, size.entrants)).collect();
-    let (ones, others) = lines(random, &size, &mut sets, planted).into_iter().partition(|_| random.chance(50));
+    let (ones, others) = lines(random, &size, &mut sets, planted, sevens).into_iter().partition(|_| random.chance(50));
     let models = [ones, others].map(|constraints| {
         let style = Style::any(random);
         let groups = sets.iter().map(|&set| style.group(random, size.entrants, set, planted)).collect();
@@ -69,14 +81,14 @@ fn random_set(random: &mut Random, entrants: u32) -> u64 {
 }
 
 /// Constraint lines. Around a draw, each line is true of the sets, which are changed to that end while no line has used them.
-fn lines(random: &mut Random, size: &Size, sets: &mut [u64], planted: bool) -> Vec<Constraint> {
+fn lines(random: &mut Random, size: &Size, sets: &mut [u64], planted: bool, sevens: usize) -> Vec<Constraint> {
     let mut used = vec![false; sets.len()];
     let mut constraints = Vec::new();
     for _ in 0..4 * size.lines {
         if constraints.len() == size.lines {
             break;
         }
-        let Some(line) = line(random, sets.len()) else { break };
+        let Some(line) = line(random, sets.len(), sevens) else { break };
         if planted {
             let first = line.groups[0];
             if !used[first] {
@@ -92,16 +104,16 @@ fn lines(random: &mut Random, size: &Size, sets: &mut [u64], planted: bool) -> V
     constraints
 }
 
-/// A line of any code for which there are groups enough.
-pub fn line(random: &mut Random, groups: usize) -> Option<Constraint> {
+/// A line of any code from 1 to 6 for which there are groups enough, or as often as asked for of code 7.
+pub fn line(random: &mut Random, groups: usize, sevens: usize) -> Option<Constraint> {
     let most = match groups {
         0 | 1 => return None,
         2 => 2,
         _ => 6,
     };
-    let code = random.from_to(1, most);
+    let code = if sevens > 0 && random.chance(sevens) { 7 } else { random.from_to(1, most) };
     let many = match code {
-        1 | 2 => 2,
+        1 | 2 | 7 => 2,
         6 => random.from_to(3, groups.min(17)),
         _ => 3,
     };
@@ -123,6 +135,8 @@ fn first_set(line: &Constraint, sets: &[u64]) -> u64 {
         2 => set(0) & set(1),
         3 => set(1) & set(2),
         5 => set(1) & !set(2),
+        7 if set(0) == set(1) => set(0) ^ 1,
+        7 => set(0),
         _ => line.groups[1..].iter().fold(0, |union, &group| union | sets[group]),
     }
 }
@@ -288,8 +302,8 @@ mod tests {
     #[test]
     fn every_order_of_the_lines_settles_alike() {
         let mut random = Random(5);
-        for _ in 0..2_000 {
-            let model = sheet::read(&valid(&mut random).sheet).unwrap();
+        for make in [valid, with_code_7].repeat(2_000) {
+            let model = sheet::read(&make(&mut random).sheet).unwrap();
             let mut other = model.clone();
             random.shuffle(&mut other.constraints);
             let most = 2 * model.groups.len() as u32 * model.entrants + 1;
@@ -306,8 +320,8 @@ mod tests {
     #[test]
     fn a_known_draw_is_never_settled_out() {
         let mut random = Random(6);
-        for _ in 0..2_000 {
-            let sample = valid(&mut random);
+        for make in [valid, with_code_7].repeat(2_000) {
+            let sample = make(&mut random);
             let Some(draw) = sample.draw else { continue };
             let settled = settle(sheet::read(&sample.sheet).unwrap()).expect("a sheet with a draw settles");
             for (group, &set) in settled.model().groups.iter().zip(&draw) {

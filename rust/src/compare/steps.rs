@@ -1,7 +1,9 @@
 //! Sheets with trees of every size, and the block of each counter cut place by place: there stands what the last of the printed steps leaves.
 use super::calls::{settled, Calls};
 use super::case::{junk, Kind, Outcome};
+use super::code_7::has_x;
 use super::random::Random;
+use crate::encode::Encoding;
 use crate::model::{Group, Model, ENTRANTS};
 use crate::sheet;
 use crate::steps::{counters, Counter, Node};
@@ -44,6 +46,7 @@ pub fn kinds() -> impl Iterator<Item = Kind> {
 pub fn check(sheet: &[u8], other: &dyn Calls, outcome: &mut Outcome) {
     let Ok(settled) = settled(sheet) else { return };
     let counters = counters(&settled.model().groups);
+    let with_x = has_x(&Encoding::of(&settled));
     let blocks = || counters.iter().zip(1..).filter_map(|(counter, block)| Some((block, counter.as_ref()?)));
     outcome.calls = blocks().count() as u64;
     for (before, (block, counter)) in blocks().enumerate() {
@@ -53,6 +56,7 @@ pub fn check(sheet: &[u8], other: &dyn Calls, outcome: &mut Outcome) {
         let same = cut(written, &pieces(counter), outcome);
         outcome.note(if before == 0 { "steps: first counter of the sheet" } else { "steps: later counter" });
         outcome.note(TREES[counter.root().n.size as usize - 2]);
+        outcome.kinds.extend(with_x.then_some("different: counters by their steps"));
         if let Err(words) = same {
             outcome.differ(format!("block {block}, {words}"));
         }
@@ -172,7 +176,6 @@ fn group(random: &mut Random, entrants: u32, size: usize) -> Group {
 #[cfg(test)]
 mod tests {
     use super::*;
-    use crate::encode::Encoding;
     use crate::listing::write_block;
 
     #[test]

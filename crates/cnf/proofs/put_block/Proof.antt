@@ -1,6 +1,7 @@
 -- `put_block` writes one block of a settled model. Assumes nothing.
 use mathlib.Core.List.{[]}
 use mathlib.Core.Path.{ap}
+use Prim.Native.Nat.{_<_}
 use native.Mathlib.Omega.{arith}
 use borrow.Author.Needs.{needs}
 use lib.ListN.{length}
@@ -8,8 +9,8 @@ use Rattle.model.specs.declared.Constraint.{Constraint}
 use Rattle.model.specs.Model.{zeroGroup}
 use Rattle.numbering.proofs.Models.{first-is}
 use Rattle.text.proofs.Writes.{same-text}
-use Rattle.counts.proofs.Settled.{groups-few, entrants-few, constraints-few, table-groups}
-use Rattle.cnf.proofs.Settled.{header-block, here-settled, here-among, here-text, here-in-range, here-block, place-in-model}
+use Rattle.counts.proofs.Settled.{groups-few, entrants-few, constraints-few, table-among}
+use Rattle.cnf.proofs.Settled.{header-block, here-settled, here-among, here-text, here-in-range, x-some, x-among, here-block, place-in-model}
 use Rattle.cnf.proofs.put_block.Statement.{statement}
 use Rattle.cnf.proofs.put_block.Tie as tie
 
@@ -75,8 +76,8 @@ returns-2 c =
     let p = c .before .before .before .before .before .before .before .before .before .before .pre in
     same-text (here-text (a .t3) (p .0 .0) (a .t4) (p .0 .1) (a .b) (omega (arith, c .before .before .before .before .before .before .before .before .if1 .left)) (c .before .before .before .before .before .before .before .if2 .taken)) (c .before .before .put-group .ensures)
 
-sub-c : tie.Need-sub-c
-sub-c c = search needs
+sub-j : tie.Need-sub-j
+sub-j c = search needs
 
 mul-c : tie.Need-mul-c
 mul-c c = search needs
@@ -87,17 +88,31 @@ element-copy-out-c c =
     let q = c .before .before .before .before .before .pre .0 .0 in
     omega (arith, constraints-few m q, place-in-model m q none (c .before .before .before .before .before .args .b) (omega (arith, c .before .before .if2 .left)) (c .before .before .before .before .before .pre .1 .0))
 
+mul-put-constraint-block : tie.Need-mul-put-constraint-block
+mul-put-constraint-block c = search needs
+
+element-copy-out-put-constraint-block : tie.Need-element-copy-out-put-constraint-block
+element-copy-out-put-constraint-block c =
+    let m = c .before .before .before .before .before .before .before .args .t3 in
+    let q = c .before .before .before .before .before .before .before .pre .0 .0 in
+    omega (arith, constraints-few m q, place-in-model m q none (c .before .before .before .before .before .before .before .args .b) (omega (arith, c .before .before .before .before .if2 .left)) (c .before .before .before .before .before .before .before .pre .1 .0))
+
 put-constraint-block-requires : tie.Need-put-constraint-block-requires
 put-constraint-block-requires c κs =
-    let a = c .before .before .before .before .before .before .before .args in
-    let q = c .before .before .before .before .before .before .before .pre .0 .0 in
-    let k = c .before .before .before .before .before .before .before .pre .1 .0 in (
-      (groups-few (a .t3) q, entrants-few (a .t3) q),
+    let m = c .before .before .before .before .before .before .before .before .args .t3 in
+    let v = c .before .before .before .before .before .before .before .before .args .t4 in
+    let b = c .before .before .before .before .before .before .before .before .args .b in
+    let p = c .before .before .before .before .before .before .before .before .pre in
+    let q = p .0 .0 in
+    let e = p .0 .1 in
+    let h : m .s < b = omega (arith, c .before .before .before .before .before .if2 .left) in
+    let k = p .1 .0 in (
+      (groups-few m q, entrants-few m q),
       (
-        (table-groups (a .t3) q, first-is (a .t3) (a .t4) (c .before .before .before .before .before .before .before .pre .0 .1)),
+        (table-among m q, first-is m v e),
         (
-          here-in-range (a .t3) q none (a .b) (omega (arith, c .before .before .before .before .if2 .left)) k,
-          omega (arith, ap length (here-block (a .t3) q none (a .b) (omega (arith, c .before .before .before .before .if2 .left)) k), c .before .before .before .before .before .before .before .pre .1 .1),
+          (here-in-range m q none b h k, x-some m q none b h k v e, x-among m q none b h k v e),
+          omega (arith, ap length (here-block m q none b h k v e), p .1 .1),
         ),
       ),
     )
@@ -107,8 +122,9 @@ same-length-3 c = search needs
 
 returns-3 : tie.Need-returns-3
 returns-3 c =
-    let a = c .before .before .before .before .before .before .before .before .before .before .args in
-    same-text (here-block (a .t3) (c .before .before .before .before .before .before .before .before .before .before .pre .0 .0) none (a .b) (omega (arith, c .before .before .before .before .before .before .before .if2 .left)) (c .before .before .before .before .before .before .before .before .before .before .pre .1 .0)) (c .before .before .put-constraint-block .ensures)
+    let a = c .before .before .before .before .before .before .before .before .before .before .before .args in
+    let p = c .before .before .before .before .before .before .before .before .before .before .before .pre in
+    same-text (here-block (a .t3) (p .0 .0) none (a .b) (omega (arith, c .before .before .before .before .before .before .before .before .if2 .left)) (p .1 .0) (a .t4) (p .0 .1)) (c .before .before .put-constraint-block .ensures)
 
 pub put-block-spec : {M : Type 1} → statement M
 put-block-spec =
@@ -128,9 +144,11 @@ put-block-spec =
     put-group-requires
     same-length-2
     returns-2
-    sub-c
+    sub-j
     mul-c
     element-copy-out-c
+    mul-put-constraint-block
+    element-copy-out-put-constraint-block
     put-constraint-block-requires
     same-length-3
     returns-3)

@@ -13,7 +13,7 @@ use Rattle.constraint.proofs.clause_count.Statement.{statement}
 use Rattle.constraint.proofs.clause_count.Tie as tie
 
 test : ℕ → Bool
-test i = eqb (getD (0 ∷ 2 ∷ 1 ∷ 3 ∷ 3 ∷ 3 ∷ []) i 0) (length (shortClauses i))
+test i = eqb (getD (0 ∷ 2 ∷ 1 ∷ 3 ∷ 3 ∷ 3 ∷ 0 ∷ 4 ∷ []) i 0) (length (shortClauses i))
 
 add-result : tie.Need-add-result
 add-result c = search needs
@@ -29,7 +29,7 @@ array-read-result c = search needs
 
 returns-2 : tie.Need-returns-2
 unfolding shortClauses test
-returns-2 c = rw (of-short ((c .before .before .args .code)) ((c .before .before .args .k)) ((c .before .if1 .left))) (eqb→eq _ _ (below 6 test tt ((c .before .before .args .code)) ((c .if2 .taken))))
+returns-2 c = rw (of-short ((c .before .before .args .code)) ((c .before .before .args .k)) ((c .before .if1 .left))) (eqb→eq _ _ (below 8 test tt ((c .before .before .args .code)) ((c .if2 .taken))))
 
 returns-3 : tie.Need-returns-3
 returns-3 c = sym (ap length (of-short ((c .before .before .args .code)) ((c .before .before .args .k)) ((c .before .if1 .left)) ∙ past-code ((c .before .before .args .code)) ((c .if2 .left))))

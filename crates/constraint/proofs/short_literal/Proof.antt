@@ -1,4 +1,4 @@
--- `short_literal` is a literal of a clause of the codes below 6. Assumes nothing.
+-- `short_literal` is a literal of a clause of the table. Assumes nothing.
 use mathlib.Core.Path.{sym, ap}
 use lib.ListN.{getD}
 use Rattle.model.specs.declared.Literal.the-variants.{Pos}

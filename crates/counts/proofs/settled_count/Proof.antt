@@ -2,7 +2,7 @@
 use native.Mathlib.Omega.{arith}
 use borrow.Author.Needs.{needs}
 use Rattle.numbering.proofs.Models.{first-is}
-use Rattle.counts.proofs.Settled.{groups-few, entrants-few, constraints-few, table-groups, constraints-good, clauses-are}
+use Rattle.counts.proofs.Settled.{groups-few, entrants-few, constraints-few, table-groups, table-among, constraints-good, clauses-are}
 use Rattle.counts.proofs.settled_count.Statement.{statement}
 use Rattle.counts.proofs.settled_count.Tie as tie
 
@@ -23,7 +23,7 @@ sum-constraints-requires c κs =
     let m = c .before .before .before .before .before .before .before .args .m in
     let q = c .before .before .before .before .before .before .before .pre in (
       (groups-few m q, entrants-few m q, constraints-few m q),
-      ((table-groups m q, first-is m (c .before .before .before .before .before .before .of-model .result) (c .before .before .before .before .before .before .of-model .ensures)), constraints-good m q),
+      ((table-among m q, first-is m (c .before .before .before .before .before .before .of-model .result) (c .before .before .before .before .before .before .of-model .ensures)), constraints-good m q),
     )
 
 add-result : tie.Need-add-result

@@ -2,7 +2,7 @@
 use Rattle.counts.proofs.Settled.{constraints-next, constraint-good-at}
 use mathlib.Core.Path.{_≡_, refl, ap, _∙_}
 use mathlib.Core.List.{[]}
-use Prim.Native.Nat.{ℕ, _-_, _*_, _≤_}
+use Prim.Native.Nat.{ℕ, _+_, _-_, _*_, _≤_}
 use lib.ListN.{length, take}
 use Rattle.model.specs.Limits.{limits}
 use Rattle.model.specs.Lists.{total}
@@ -12,7 +12,7 @@ use Rattle.counts.proofs.sum_constraints.Statement.{statement}
 use Rattle.counts.proofs.sum_constraints.Tie as tie
 
 abbrev Inv-loop : tie.InvT-loop
-Inv-loop groups s first c n constraints r₀ j₀ r j = (j ≤ c) × (r ≡ total (λ x. length (constraintClauses n (take s groups) x)) (take j constraints)) × (r ≤ j * (limits .entrants * limits .members))
+Inv-loop groups s first c n constraints r₀ j₀ r j = (j ≤ c) × (r ≡ total (λ x. length (constraintClauses n (take s groups) 0 x)) (take j constraints)) × (r ≤ j * (limits .entrants * limits .members + 1))
 
 abbrev μ-loop : tie.MeasureT-loop
 μ-loop groups s first c n constraints r₀ j₀ r j = c - j
@@ -42,7 +42,7 @@ loop-again : tie.Need-loop-again Inv-loop μ-loop
 loop-again c = (omega arith, omega (arith, constraints-next (c .before .before .before .before .args .s) (c .before .before .before .before .args .n) (take (c .before .before .before .before .args .s) (c .before .before .before .before .args .groups)) (c .before .before .before .before .args .t4) (c .before .before .before .loop .j) record { code = 0; count = 0; groups = [] } (omega (arith, (c .before .before .before .before .good .0), (c .before .before .before .before .pre .0 .2))), (c .constraint-length .ensures .0), (c .before .before .before .loop .inv .1)), omega (arith, (c .constraint-length .ensures .1), (c .before .before .before .loop .inv .2)))
 
 returns : tie.Need-returns Inv-loop μ-loop
-returns c = let e : (c .before .loop .j) ≡ (c .before .before .args .c) = omega arith in ((c .before .loop .inv .1) ∙ ap (λ (k : ℕ). total (λ x. length (constraintClauses (c .before .before .args .n) (take (c .before .before .args .s) (c .before .before .args .groups)) x)) (take k (c .before .before .args .t4))) e, omega (arith, (c .before .loop .inv .2), (c .before .before .pre .0 .2)))
+returns c = let e : (c .before .loop .j) ≡ (c .before .before .args .c) = omega arith in ((c .before .loop .inv .1) ∙ ap (λ (k : ℕ). total (λ x. length (constraintClauses (c .before .before .args .n) (take (c .before .before .args .s) (c .before .before .args .groups)) 0 x)) (take k (c .before .before .args .t4))) e, omega (arith, (c .before .loop .inv .2), (c .before .before .pre .0 .2)))
 
 pub sum-constraints-spec : {M : Type 1} → statement M
 sum-constraints-spec =

@@ -3,6 +3,7 @@ use mathlib.Core.Path.{_∙_}
 use native.Mathlib.Omega.{arith}
 use borrow.Author.Needs.{needs}
 use borrow.Author.Tests.{not-true, not-false}
+use Rattle.model.specs.Model.{constraintsOf}
 use Rattle.model.proofs.Arrays.{whole-of}
 use Rattle.numbering.proofs.Models.{variables-is}
 use Rattle.propagation_laws.proofs.Ranges.{in-range}
@@ -83,16 +84,36 @@ put-all-totalizers-requires c κs =
     (variables-is (a .m) _ (c .before .before .before .before .before .before .before .before .before .of-model .ensures)) (omega arith) in
     ((i .entrants, i .groupCount), omega (arith, all, w .next, kept w))
 
+cast-put-all-differences : tie.Need-cast-put-all-differences
+cast-put-all-differences c = search needs
+
+cast-put-all-differences-2 : tie.Need-cast-put-all-differences-2
+cast-put-all-differences-2 c = search needs
+
+put-all-differences-requires : tie.Need-put-all-differences-requires
+unfolding constraintsOf
+put-all-differences-requires c κs =
+    let a = c .before .before .before .before .before .before .before .before .before .before .before .before .before .before .before .before .before .before .before .before .before .before .before .before .args in
+    let s = whole-of (a .m) (c .before .before .before .before .before .before .before .before .before .before .before .before .before .before .before .before .before .before .before .before .whole .ensures) in
+    let e = c .before .before .before .before .before .before .before .before .before .before .before .before .before .before .before .before .before .before .before .unsettled .ensures in
+    let z = c .before .before .before .before .before .before .before .before .before .before .before .before .before .before .before .before .before .before .if1 .left in
+    let i = in-range (a .m) (ranged (a .m) s (a .words) (a .values .now) _ e z) in
+    let v = c .before .before .before .before .before .before .before .before .before .before .put-all-variables .ensures in
+    let w = c .before .before .before .before .before .put-all-totalizers .ensures in
+    let all =
+    all-length (a .m) s (a .words) (a .values .now) _ e z _ (c .before .before .before .before .before .before .before .before .before .before .before .before .before .before .before .before .before .is-draw .ensures) (not-false _ (c .before .before .before .before .before .before .before .before .before .before .before .before .before .before .before .before .if2 .left)) _
+    (variables-is (a .m) _ (c .before .before .before .before .before .before .before .before .before .before .before .before .before .before .before .of-model .ensures)) (omega arith) in
+    ((i .entrants, i .constraintCount), ((i .constraints, s .members), omega (arith, all, v .next, kept v, w .next, kept w)))
+
 same-length : tie.Need-same-length
-same-length c = c .before .before .put-all-totalizers .kept .0 ∙ c .before .before .before .before .before .before .before .put-all-variables .kept .0
+same-length c = c .before .before .put-all-differences .kept .0 ∙ c .before .before .before .before .before .before .before .before .put-all-totalizers .kept .0 ∙ c .before .before .before .before .before .before .before .before .before .before .before .before .before .put-all-variables .kept .0
 
 returns-4 : tie.Need-returns-4
 returns-4 c =
-    let a = c .before .before .before .before .before .before .before .before .before .before .before .before .before .before .before .before .before .before .before .before .before .args in
-    let s = whole-of (a .m) (c .before .before .before .before .before .before .before .before .before .before .before .before .before .before .before .before .before .whole .ensures) in
-    let e = c .before .before .before .before .before .before .before .before .before .before .before .before .before .before .before .before .unsettled .ensures in
-    fill-0 (a .m) s (a .words) (a .values .now) _ e (c .before .before .before .before .before .before .before .before .before .before .before .before .before .before .before .if1 .left) _ (c .before .before .before .before .before .before .before .before .before .before .before .before .before .before .is-draw .ensures) (not-false _ (c .before .before .before .before .before .before .before .before .before .before .before .before .before .if2 .left)) _
-    (variables-is (a .m) _ (c .before .before .before .before .before .before .before .before .before .before .before .before .of-model .ensures)) (omega arith) (c .before .before .before .before .before .before .before .put-all-variables .ensures) (c .before .before .put-all-totalizers .ensures)
+    let a = c .before .before .before .before .before .before .before .before .before .before .before .before .before .before .before .before .before .before .before .before .before .before .before .before .before .before .before .args in
+    let s = whole-of (a .m) (c .before .before .before .before .before .before .before .before .before .before .before .before .before .before .before .before .before .before .before .before .before .before .before .whole .ensures) in
+    fill-0 (a .m) s (a .words) (a .values .now) _ (c .before .before .before .before .before .before .before .before .before .before .before .before .before .before .before .before .before .before .before .before .before .before .unsettled .ensures) (c .before .before .before .before .before .before .before .before .before .before .before .before .before .before .before .before .before .before .before .before .before .if1 .left) _ (c .before .before .before .before .before .before .before .before .before .before .before .before .before .before .before .before .before .before .before .before .is-draw .ensures) (not-false _ (c .before .before .before .before .before .before .before .before .before .before .before .before .before .before .before .before .before .before .before .if2 .left)) _
+    (variables-is (a .m) _ (c .before .before .before .before .before .before .before .before .before .before .before .before .before .before .before .before .before .before .of-model .ensures)) (omega arith) (c .before .before .before .before .before .before .before .before .before .before .before .before .before .put-all-variables .ensures) (c .before .before .before .before .before .before .before .before .put-all-totalizers .ensures) (c .before .before .put-all-differences .ensures)
 
 pub fill-spec : {M : Type 1} → statement M
 fill-spec =
@@ -110,5 +131,8 @@ fill-spec =
     put-all-variables-requires
     cast-put-all-totalizers
     put-all-totalizers-requires
+    cast-put-all-differences
+    cast-put-all-differences-2
+    put-all-differences-requires
     same-length
     returns-4)

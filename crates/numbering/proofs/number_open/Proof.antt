@@ -4,11 +4,11 @@ use mathlib.Core.List.{map}
 use Prim.Native.Nat.{ℕ, _+_, _-_, _*_, _≤_}
 use native.Mathlib.Omega.{arith}
 use lib.ListN.{length, take, length-set}
-use Rattle.model.specs.Lists.{total}
+use Rattle.model.specs.Lists.{total, range}
 use Rattle.model.specs.Limits.{limits}
 use Rattle.model.specs.Model.{zeroGroup}
 use Rattle.model.specs.Cnf.{openCount, firstVariable}
-use Rattle.numbering.specs.Numbering.{numbers, firstVariables}
+use Rattle.numbering.specs.Numbering.{firstVariables}
 use Rattle.numbering.proofs.Arrays.{fill-numbers, filled-numbers, total-step, total-whole}
 use Rattle.numbering.proofs.Totalizers.{variable-at}
 use Rattle.numbering.proofs.number_open.Statement.{statement}
@@ -16,7 +16,7 @@ use Rattle.numbering.proofs.number_open.Tie as tie
 
 abbrev Inv-loop : tie.InvT-loop
 Inv-loop s groups first₀ next₀ i₀ first next i =
-    (i ≤ limits .groups) × (length first ≡ limits .groups) × (take i first ≡ map (firstVariable (take s groups)) (take i numbers))
+    (i ≤ limits .groups) × (length first ≡ limits .groups) × (take i first ≡ map (firstVariable (take s groups)) (take i (range 1 (limits .groups))))
     × (next ≡ 1 + total openCount (take i (take s groups))) × (next ≤ 1 + i * limits .word)
 
 abbrev μ-loop : tie.MeasureT-loop
@@ -58,7 +58,7 @@ loop-again c =
     let t = total-step openCount (a .t1) (a .s) i zeroGroup (omega (arith, c .before .before .before .before .good)) _ refl in (
       omega arith,
       simp length-set (inv .1),
-      fill-numbers (firstVariable (take (a .s) (a .t1))) _ i _ (omega arith) (inv .1) (inv .2) (variable-at (take (a .s) (a .t1)) i _ (inv .3)),
+      fill-numbers (limits .groups) (firstVariable (take (a .s) (a .t1))) _ i _ (omega arith) (inv .1) (inv .2) (variable-at (take (a .s) (a .t1)) i _ (inv .3)),
       omega (arith, t, inv .3, c .open-where .ensures .0),
       omega (arith, c .open-where .ensures .1, inv .4),
     )
@@ -69,7 +69,7 @@ returns c =
     let a = c .before .before .args in
     let i = c .before .loop .i in
     let inv = c .before .loop .inv in (
-      filled-numbers (firstVariable (take (a .s) (a .t1))) _ i (omega arith) (inv .1) (inv .2),
+      filled-numbers (limits .groups) (firstVariable (take (a .s) (a .t1))) _ i (omega arith) (inv .1) (inv .2),
       inv .3 ∙ ap (λ (k : ℕ). 1 + k) (total-whole openCount (a .t1) (a .s) i zeroGroup (omega (arith, c .before .before .good))),
       omega (arith, inv .4),
     )

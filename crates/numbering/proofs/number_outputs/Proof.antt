@@ -4,11 +4,11 @@ use mathlib.Core.List.{map}
 use Prim.Native.Nat.{ℕ, _+_, _-_, _*_, _≤_}
 use native.Mathlib.Omega.{arith}
 use lib.ListN.{length, take, length-set}
-use Rattle.model.specs.Lists.{total}
+use Rattle.model.specs.Lists.{total, range}
 use Rattle.model.specs.Limits.{limits}
 use Rattle.model.specs.Model.{zeroGroup}
 use Rattle.model.specs.Cnf.{outputsOf, firstOutput}
-use Rattle.numbering.specs.Numbering.{numbers, firstOutputs}
+use Rattle.numbering.specs.Numbering.{firstOutputs}
 use Rattle.numbering.proofs.Arrays.{fill-numbers, filled-numbers, total-step, total-whole}
 use Rattle.numbering.proofs.Totalizers.{outputs-few, output-at}
 use Rattle.numbering.proofs.number_outputs.Statement.{statement}
@@ -16,7 +16,7 @@ use Rattle.numbering.proofs.number_outputs.Tie as tie
 
 abbrev Inv-loop : tie.InvT-loop
 Inv-loop s from groups first₀ next₀ i₀ first next i =
-    (i ≤ limits .groups) × (length first ≡ limits .groups) × (take i first ≡ map (firstOutput (take s groups)) (take i numbers))
+    (i ≤ limits .groups) × (length first ≡ limits .groups) × (take i first ≡ map (firstOutput (take s groups)) (take i (range 1 (limits .groups))))
     × (next ≡ from + total outputsOf (take i (take s groups))) × (next ≤ from + i * (limits .word * limits .word))
 
 abbrev μ-loop : tie.MeasureT-loop
@@ -58,7 +58,7 @@ loop-again c =
     let t = total-step outputsOf (a .t1) (a .s) i zeroGroup (omega (arith, c .before .before .before .before .good)) _ refl in (
       omega arith,
       simp length-set (inv .1),
-      fill-numbers (firstOutput (take (a .s) (a .t1))) _ i _ (omega arith) (inv .1) (inv .2)
+      fill-numbers (limits .groups) (firstOutput (take (a .s) (a .t1))) _ i _ (omega arith) (inv .1) (inv .2)
           (output-at (take (a .s) (a .t1)) i _ (inv .3 ∙ ap (λ (k : ℕ). k + total outputsOf (take i (take (a .s) (a .t1)))) (c .before .before .before .before .pre .0))),
       omega (arith, t, inv .3, c .outputs-where .ensures .0),
       omega (arith, c .outputs-where .ensures .1, inv .4, outputs-few),
@@ -70,8 +70,9 @@ returns c =
     let a = c .before .before .args in
     let i = c .before .loop .i in
     let inv = c .before .loop .inv in (
-      filled-numbers (firstOutput (take (a .s) (a .t1))) _ i (omega arith) (inv .1) (inv .2),
+      filled-numbers (limits .groups) (firstOutput (take (a .s) (a .t1))) _ i (omega arith) (inv .1) (inv .2),
       inv .3 ∙ ap (λ (k : ℕ). a .from + k) (total-whole outputsOf (a .t1) (a .s) i zeroGroup (omega (arith, c .before .before .good))),
+      omega (arith, inv .0, inv .4),
     )
 
 pub number-outputs-spec : {M : Type 1} → statement M

@@ -4,7 +4,7 @@ use mathlib.Core.Path.{_≡_}
 use lib.ListN.{take}
 use Rattle.model.specs.Propagate.{outcome}
 use Rattle.table.specs.Table.{groupsIn, Whole}
-use Rattle.propagate.proofs.Passes.{s-few, n-few, c-few, constraints-stand, range-false, range-true, whole-read, fuel-fits, Left, first-left, refused-20, refused-21, refused-at-end, at-fixpoint, pass-more}
+use Rattle.propagate.proofs.Passes.{s-some, s-few, n-few, c-few, constraints-in, constraints-stand, range-false, range-true, whole-read, fuel-fits, Left, first-left, refused-20, refused-21, refused-at-end, at-fixpoint, pass-more}
 use native.Mathlib.Omega.{arith}
 use borrow.Author.Needs.{needs}
 use borrow.Author.Tests.{not-true, not-false}
@@ -53,14 +53,17 @@ passed-requires c κs = ((c .before .loop .inv .0), (s-few ((c .before .before .
 add-k : tie.Need-add-k Inv-loop μ-loop
 add-k c = omega (arith, fuel-fits ((c .before .before .before .before .before .before .before .before .before .before .before .before .args .m)) (range-true ((c .before .before .before .before .before .before .before .before .before .before .before .before .args .m)) _ ((c .before .before .before .before .before .before .before .before .before .before .before .in-range .ensures)) (not-false _ ((c .before .before .before .before .before .before .before .before .before .before .if1 .left)))))
 
-is-consistent-requires : tie.Need-is-consistent-requires Inv-loop μ-loop
-is-consistent-requires c κs = search needs
+is-tenable-requires : tie.Need-is-tenable-requires Inv-loop μ-loop
+is-tenable-requires c κs =
+    let m = c .before .before .before .before .before .before .before .before .before .before .before .before .args .m in
+    let t = range-true m _ (c .before .before .before .before .before .before .before .before .before .before .before .in-range .ensures) (not-false _ (c .before .before .before .before .before .before .before .before .before .before .if1 .left)) in
+    (c .passed .ensures .0, (s-some m t, (s-few m t, (c-few m t, constraints-in m t))))
 
 refused-requires-2 : tie.Need-refused-requires-2 Inv-loop μ-loop
 refused-requires-2 c κs = search needs
 
 returns-2 : tie.Need-returns-2 Inv-loop μ-loop
-returns-2 c = refused-21 ((c .before .before .before .before .before .before .before .before .before .before .before .before .before .before .before .args .m)) (range-true ((c .before .before .before .before .before .before .before .before .before .before .before .before .before .before .before .args .m)) _ ((c .before .before .before .before .before .before .before .before .before .before .before .before .before .before .in-range .ensures)) (not-false _ ((c .before .before .before .before .before .before .before .before .before .before .before .before .before .if1 .left)))) ((c .before .before .before .before .before .loop .k)) (groupsIn ((c .before .before .before .before .before .loop .t))) ((c .before .before .before .before .before .loop .inv .1)) _ ((c .before .before .before .before .before .loop .inv .0)) ((c .before .before .before .passed .ensures .1)) ((c .before .before .before .before .loop-test .taken)) _ ((c .before .before .is-consistent .ensures)) (not-true _ ((c .before .if2 .taken))) _ ((c .refused2 .ensures))
+returns-2 c = refused-21 ((c .before .before .before .before .before .before .before .before .before .before .before .before .before .before .before .args .m)) (range-true ((c .before .before .before .before .before .before .before .before .before .before .before .before .before .before .before .args .m)) _ ((c .before .before .before .before .before .before .before .before .before .before .before .before .before .before .in-range .ensures)) (not-false _ ((c .before .before .before .before .before .before .before .before .before .before .before .before .before .if1 .left)))) ((c .before .before .before .before .before .loop .k)) (groupsIn ((c .before .before .before .before .before .loop .t))) ((c .before .before .before .before .before .loop .inv .1)) _ ((c .before .before .before .before .before .loop .inv .0)) ((c .before .before .before .passed .ensures .1)) ((c .before .before .before .before .loop-test .taken)) _ ((c .before .before .is-tenable .ensures)) (not-true _ ((c .before .if2 .taken))) _ ((c .refused2 .ensures))
 
 is-same-requires : tie.Need-is-same-requires Inv-loop μ-loop
 is-same-requires c κs = search needs
@@ -69,13 +72,13 @@ done-requires : tie.Need-done-requires Inv-loop μ-loop
 done-requires c κs = search needs
 
 returns-3 : tie.Need-returns-3 Inv-loop μ-loop
-returns-3 c = at-fixpoint ((c .before .before .before .before .before .before .before .before .before .before .before .before .before .before .before .before .before .args .m)) (range-true ((c .before .before .before .before .before .before .before .before .before .before .before .before .before .before .before .before .before .args .m)) _ ((c .before .before .before .before .before .before .before .before .before .before .before .before .before .before .before .before .in-range .ensures)) (not-false _ ((c .before .before .before .before .before .before .before .before .before .before .before .before .before .before .before .if1 .left)))) ((c .before .before .before .before .before .before .before .loop .k)) (groupsIn ((c .before .before .before .before .before .before .before .loop .t))) ((c .before .before .before .before .before .before .before .loop .inv .1)) _ ((c .before .before .before .before .before .before .before .loop .inv .0)) ((c .before .before .before .before .before .passed .ensures .1)) ((c .before .before .before .before .before .before .loop-test .taken)) _ ((c .before .before .before .before .is-consistent .ensures)) (not-false _ ((c .before .before .before .if2 .left))) _ ((c .before .before .is-same .ensures)) ((c .before .if3 .taken)) _ ((c .done .ensures))
+returns-3 c = at-fixpoint ((c .before .before .before .before .before .before .before .before .before .before .before .before .before .before .before .before .before .args .m)) (range-true ((c .before .before .before .before .before .before .before .before .before .before .before .before .before .before .before .before .before .args .m)) _ ((c .before .before .before .before .before .before .before .before .before .before .before .before .before .before .before .before .in-range .ensures)) (not-false _ ((c .before .before .before .before .before .before .before .before .before .before .before .before .before .before .before .if1 .left)))) ((c .before .before .before .before .before .before .before .loop .k)) (groupsIn ((c .before .before .before .before .before .before .before .loop .t))) ((c .before .before .before .before .before .before .before .loop .inv .1)) _ ((c .before .before .before .before .before .before .before .loop .inv .0)) ((c .before .before .before .before .before .passed .ensures .1)) ((c .before .before .before .before .before .before .loop-test .taken)) _ ((c .before .before .before .before .is-tenable .ensures)) (not-false _ ((c .before .before .before .if2 .left))) _ ((c .before .before .is-same .ensures)) ((c .before .if3 .taken)) _ ((c .done .ensures))
 
 loop-less : tie.Need-loop-less Inv-loop μ-loop
 loop-less c = omega arith
 
 loop-again : tie.Need-loop-again Inv-loop μ-loop
-loop-again c = ((c .before .before .before .before .passed .ensures .0), pass-more ((c .before .before .before .before .before .before .before .before .before .before .before .before .before .before .before .before .args .m)) (range-true ((c .before .before .before .before .before .before .before .before .before .before .before .before .before .before .before .before .args .m)) _ ((c .before .before .before .before .before .before .before .before .before .before .before .before .before .before .before .in-range .ensures)) (not-false _ ((c .before .before .before .before .before .before .before .before .before .before .before .before .before .before .if1 .left)))) ((c .before .before .before .before .before .before .loop .k)) (groupsIn ((c .before .before .before .before .before .before .loop .t))) ((c .before .before .before .before .before .before .loop .inv .1)) _ ((c .before .before .before .before .before .before .loop .inv .0)) ((c .before .before .before .before .passed .ensures .1)) ((c .before .before .before .before .before .loop-test .taken)) _ ((c .before .before .before .is-consistent .ensures)) (not-false _ ((c .before .before .if2 .left))) _ ((c .before .is-same .ensures)) ((c .if3 .left)))
+loop-again c = ((c .before .before .before .before .passed .ensures .0), pass-more ((c .before .before .before .before .before .before .before .before .before .before .before .before .before .before .before .before .args .m)) (range-true ((c .before .before .before .before .before .before .before .before .before .before .before .before .before .before .before .before .args .m)) _ ((c .before .before .before .before .before .before .before .before .before .before .before .before .before .before .before .in-range .ensures)) (not-false _ ((c .before .before .before .before .before .before .before .before .before .before .before .before .before .before .if1 .left)))) ((c .before .before .before .before .before .before .loop .k)) (groupsIn ((c .before .before .before .before .before .before .loop .t))) ((c .before .before .before .before .before .before .loop .inv .1)) _ ((c .before .before .before .before .before .before .loop .inv .0)) ((c .before .before .before .before .passed .ensures .1)) ((c .before .before .before .before .before .loop-test .taken)) _ ((c .before .before .before .is-tenable .ensures)) (not-false _ ((c .before .before .if2 .left))) _ ((c .before .is-same .ensures)) ((c .if3 .left)))
 
 refused-requires-3 : tie.Need-refused-requires-3 Inv-loop μ-loop
 refused-requires-3 c κs = search needs
@@ -101,7 +104,7 @@ propagate-spec =
     loop-holds
     passed-requires
     add-k
-    is-consistent-requires
+    is-tenable-requires
     refused-requires-2
     returns-2
     is-same-requires

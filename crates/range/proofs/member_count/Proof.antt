@@ -28,7 +28,7 @@ returns-2 c = simp (ne-eqb _ _ (c .before .if1 .left))
 
 returns-3 : tie.Need-returns-3
 unfolding memberCount
-returns-3 c = rw (ne-eqb _ _ (c .before .if1 .left)) (sym (List·getD-eq-default {A = ℕ} (0 ∷ 2 ∷ 2 ∷ 3 ∷ 3 ∷ 3 ∷ []) 0 (c .if2 .left)))
+returns-3 c = rw (ne-eqb _ _ (c .before .if1 .left)) (sym (List·getD-eq-default {A = ℕ} (0 ∷ 2 ∷ 2 ∷ 3 ∷ 3 ∷ 3 ∷ 0 ∷ 2 ∷ []) 0 (c .if2 .left)))
 
 pub member-count-spec : {M : Type 1} → statement M
 member-count-spec =

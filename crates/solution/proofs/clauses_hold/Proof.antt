@@ -1,15 +1,12 @@
 -- `clauses_hold` judges the groups, then the constraints. Assumes nothing.
 use mathlib.Core.Bool.{Bool, _&&_}
 use mathlib.Core.Path.{sym, ap, _∙_}
-use Prim.Native.Nat.{ℕ}
-use native.Mathlib.Omega.{arith}
 use borrow.Author.Tests.{not-true, not-false}
 use borrow.Author.Needs.{needs}
 use lib.ListN.{take}
-use Rattle.model.specs.Lists.{every}
-use Rattle.model.specs.Words.{full}
-use Rattle.model.proofs.Words.{entrants-full}
-use Rattle.solution.specs.Holds.{constraintHolds, clausesHold}
+use Rattle.model.specs.Lists.{every, range}
+use Rattle.model.specs.Close.{assignmentOf}
+use Rattle.solution.specs.Holds.{constraintHoldsAt, clausesHold}
 use Rattle.solution.proofs.clauses_hold.Statement.{statement}
 use Rattle.solution.proofs.clauses_hold.Tie as tie
 
@@ -19,14 +16,9 @@ groups-hold-requires c κs = search needs
 returns : tie.Need-returns
 unfolding clausesHold
 returns c =
-    let s = c .before .before .before .before .before .args in (
-      (omega (arith, c .before .before .before .before .before .good), omega (arith, c .before .before .before .before .before .good)),
-      sym (ap (λ (b : Bool). b && every (constraintHolds (s .words) (full (s .n))) (take (s .c) (s .constraints)))
-          (sym (c .before .groups-hold .ensures) ∙ not-true _ (c .if1 .taken))),
-    )
-
-entrants-requires : tie.Need-entrants-requires
-entrants-requires c κs = search needs
+    let a = c .before .before .before .before .before .args in
+    let rest = every (constraintHoldsAt (assignmentOf (a .values .now)) (take (a .s) (a .groups)) (take (a .c) (a .constraints)) (a .words) (a .n)) (range 0 (a .c)) in
+    sym (ap (λ (b : Bool). b && rest) (sym (c .before .groups-hold .ensures) ∙ not-true _ (c .if1 .taken)))
 
 constraints-hold-requires : tie.Need-constraints-hold-requires
 constraints-hold-requires c κs = search needs
@@ -34,13 +26,10 @@ constraints-hold-requires c κs = search needs
 returns-2 : tie.Need-returns-2
 unfolding clausesHold
 returns-2 c =
-    let s = c .before .before .before .before .before .before .before .args in (
-      (omega (arith, c .before .before .before .before .before .before .before .good), omega (arith, c .before .before .before .before .before .before .before .good)),
-      c .constraints-hold .ensures
-          ∙ ap (λ (w : ℕ). every (constraintHolds (s .words) w) (take (s .c) (s .constraints))) (c .before .entrants .ensures ∙ entrants-full (s .n) (omega arith))
-          ∙ sym (ap (λ (b : Bool). b && every (constraintHolds (s .words) (full (s .n))) (take (s .c) (s .constraints)))
-          (sym (c .before .before .before .groups-hold .ensures) ∙ not-false _ (c .before .before .if1 .left))),
-    )
+    let a = c .before .before .before .before .before .before .before .args in
+    let rest = every (constraintHoldsAt (assignmentOf (a .values .now)) (take (a .s) (a .groups)) (take (a .c) (a .constraints)) (a .words) (a .n)) (range 0 (a .c)) in
+    c .constraints-hold .ensures ∙ sym (ap (λ (b : Bool). b && rest) (sym (c .before .before .before .groups-hold .ensures) ∙ not-false _ (c .before .before .if1 .left)))
 
 pub clauses-hold-spec : {M : Type 1} → statement M
-clauses-hold-spec = tie.close (tie.spec groups-hold-requires returns entrants-requires constraints-hold-requires returns-2)
+clauses-hold-spec =
+    tie.close (tie.spec groups-hold-requires returns constraints-hold-requires returns-2)

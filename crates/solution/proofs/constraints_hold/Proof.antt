@@ -1,25 +1,32 @@
 -- `constraints_hold` judges the first c constraints. Invariant: the test of all is the test of those from j on. Assumes nothing.
-use Rattle.solution.specs.Holds.{constraintHolds}
-use Rattle.model.proofs.Loops.{every-goes, every-stops, every-done}
-use Rattle.model.specs.Lists.{every}
-use borrow.Author.Tests.{not-true, not-false}
-use lib.ListN.{drop, take}
-use Prim.Native.Nat.{_≤_, _-_}
-use mathlib.Core.Path.{_≡_, refl, sym, _∙_}
+use mathlib.Core.Path.{_≡_, sym, ap, _∙_}
+use Prim.Native.Nat.{ℕ, _-_, _≤_}
+use native.Mathlib.Nat.{sub-zero}
 use native.Mathlib.Omega.{arith}
 use borrow.Author.Needs.{needs}
+use borrow.Author.Tests.{not-true, not-false}
+use lib.ListN.{take}
+use Rattle.model.specs.Lists.{every, range}
+use Rattle.model.specs.Close.{assignmentOf}
+use Rattle.model.proofs.Loops.{range-goes, range-stops, range-done}
+use Rattle.solution.specs.Holds.{constraintHoldsAt}
+use Rattle.solution.proofs.Constraints.{constraint-holds-at}
 use Rattle.solution.proofs.constraints_hold.Statement.{statement}
 use Rattle.solution.proofs.constraints_hold.Tie as tie
 
 abbrev Inv-loop : tie.InvT-loop
-Inv-loop words c all constraints j₀ j =
-    (j ≤ c) × (every (constraintHolds words all) (take c constraints) ≡ every (constraintHolds words all) (drop j (take c constraints)))
+Inv-loop values groups words n s c constraints differences j₀ j =
+    let p = constraintHoldsAt (assignmentOf values) (take s groups) (take c constraints) words n in
+    (j ≤ c) × (every p (range 0 c) ≡ every p (range j (c - j)))
 
 abbrev μ-loop : tie.MeasureT-loop
-μ-loop words c all constraints j₀ j = c - j
+μ-loop values groups words n s c constraints differences j₀ j = c - j
 
 loop-holds : tie.Need-loop-holds Inv-loop μ-loop
-loop-holds c = (omega arith, refl)
+loop-holds c =
+    let a = c .before .args in
+    let p = constraintHoldsAt (assignmentOf (a .values .now)) (take (a .s) (a .groups)) (take (a .c) (a .t3)) (a .words) (a .n) in
+    (omega arith, sym (ap (λ (k : ℕ). every p (range 0 k)) (sub-zero (a .c))))
 
 mul-l : tie.Need-mul-l Inv-loop μ-loop
 mul-l c = omega arith
@@ -27,12 +34,27 @@ mul-l c = omega arith
 array-copy-out-l : tie.Need-array-copy-out-l Inv-loop μ-loop
 array-copy-out-l c = omega arith
 
+mul-wide : tie.Need-mul-wide Inv-loop μ-loop
+mul-wide c = omega arith
+
+array-read-wide : tie.Need-array-read-wide Inv-loop μ-loop
+array-read-wide c = omega arith
+
+wide-requires : tie.Need-wide-requires Inv-loop μ-loop
+wide-requires c κs = search needs
+
 constraint-holds-requires : tie.Need-constraint-holds-requires Inv-loop μ-loop
 constraint-holds-requires c κs = search needs
 
 returns : tie.Need-returns Inv-loop μ-loop
-unfolding constraintHolds
-returns c = every-stops (constraintHolds (c .before .before .before .before .before .before .args .words) (c .before .before .before .before .before .before .args .all)) (c .before .before .before .before .before .before .args .t2) (c .before .before .before .before .before .before .args .c) (c .before .before .before .before .before .loop .j) (c .before .before .before .before .before .loop .inv .1) (omega (arith, (c .before .before .before .before .before .before .good))) _ (sym (c .before .constraint-holds .ensures) ∙ not-true _ (c .if1 .taken))
+returns c =
+    let a = c .before .before .before .before .before .before .before .args in
+    let values = assignmentOf (a .values .now) in
+    let t = take (a .s) (a .groups) in
+    let j = c .before .before .before .before .before .loop .j in
+    let p = constraintHoldsAt values t (take (a .c) (a .t3)) (a .words) (a .n) in
+    let e = constraint-holds-at values t (a .t3) (a .c) (a .words) (a .n) j (c .before .before .before .before .loop-test .taken) (a .t4) (omega arith) (c .before .before .before .before .before .before .before .pre .1) _ (c .before .before .wide .ensures .0) (omega (arith, c .before .before .before .before .before .before .before .good)) _ _ (c .before .constraint-holds .ensures) in
+    sym (range-stops p (every p (range 0 (a .c))) (a .c) j (c .before .before .before .before .before .loop .inv .1) (c .before .before .before .before .loop-test .taken) (sym e ∙ not-true _ (c .if1 .taken)))
 
 add-j : tie.Need-add-j Inv-loop μ-loop
 add-j c = omega arith
@@ -41,11 +63,20 @@ loop-less : tie.Need-loop-less Inv-loop μ-loop
 loop-less c = omega arith
 
 loop-again : tie.Need-loop-again Inv-loop μ-loop
-unfolding constraintHolds
-loop-again c = (omega arith, every-goes (constraintHolds (c .before .before .before .before .before .before .args .words) (c .before .before .before .before .before .before .args .all)) (c .before .before .before .before .before .before .args .t2) (c .before .before .before .before .before .before .args .c) (c .before .before .before .before .before .loop .j) (c .before .before .before .before .before .loop .inv .1) (omega (arith, (c .before .before .before .before .before .before .good))) _ (sym (c .before .constraint-holds .ensures) ∙ not-false _ (c .if1 .left)))
+loop-again c =
+    let a = c .before .before .before .before .before .before .before .args in
+    let values = assignmentOf (a .values .now) in
+    let t = take (a .s) (a .groups) in
+    let j = c .before .before .before .before .before .loop .j in
+    let p = constraintHoldsAt values t (take (a .c) (a .t3)) (a .words) (a .n) in
+    let e = constraint-holds-at values t (a .t3) (a .c) (a .words) (a .n) j (c .before .before .before .before .loop-test .taken) (a .t4) (omega arith) (c .before .before .before .before .before .before .before .pre .1) _ (c .before .before .wide .ensures .0) (omega (arith, c .before .before .before .before .before .before .before .good)) _ _ (c .before .constraint-holds .ensures) in
+    (omega arith, range-goes p (every p (range 0 (a .c))) (a .c) j (c .before .before .before .before .before .loop .inv .1) (c .before .before .before .before .loop-test .taken) (sym e ∙ not-false _ (c .if1 .left)))
 
 returns-2 : tie.Need-returns-2 Inv-loop μ-loop
-returns-2 c = every-done (constraintHolds (c .before .before .args .words) (c .before .before .args .all)) (c .before .before .args .t2) (c .before .before .args .c) (c .before .loop .j) (c .before .loop .inv .1) (omega (arith, (c .before .before .good)))
+returns-2 c =
+    let a = c .before .before .before .args in
+    let p = constraintHoldsAt (assignmentOf (a .values .now)) (take (a .s) (a .groups)) (take (a .c) (a .t3)) (a .words) (a .n) in
+    sym (range-done p (every p (range 0 (a .c))) (a .c) (c .before .loop .j) (c .before .loop .inv .1) (omega arith))
 
 pub constraints-hold-spec : {M : Type 1} → statement M
 constraints-hold-spec =
@@ -56,6 +87,9 @@ constraints-hold-spec =
     loop-holds
     mul-l
     array-copy-out-l
+    mul-wide
+    array-read-wide
+    wide-requires
     constraint-holds-requires
     returns
     add-j

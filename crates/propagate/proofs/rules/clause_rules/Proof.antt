@@ -9,19 +9,23 @@ use Rattle.propagate.proofs.rules.clause_rules.Statement.{statement}
 use Rattle.propagate.proofs.rules.clause_rules.Tie as tie
 
 abbrev Inv-loop : tie.InvT-loop
-Inv-loop fixed₀ possible₀ n code k ids count j₀ fixed possible j = (j ≤ count) × ClausesLeft n (constraintOf code k ids) fixed₀ possible₀ j fixed possible
+Inv-loop fixed₀ possible₀ w code k ids count j₀ fixed possible j = (j ≤ count) × ClausesLeft w (constraintOf code k ids) fixed₀ possible₀ j fixed possible
 
 abbrev μ-loop : tie.MeasureT-loop
-μ-loop fixed₀ possible₀ n code k ids count j₀ fixed possible j = count - j
+μ-loop fixed₀ possible₀ w code k ids count j₀ fixed possible j = count - j
 
 clause-count-requires : tie.Need-clause-count-requires Inv-loop μ-loop
 clause-count-requires c κs = search needs
 
 loop-holds : tie.Need-loop-holds Inv-loop μ-loop
-loop-holds c = (omega arith, clauses-left ((c .before .args .n)) (constraintOf ((c .before .args .code)) ((c .before .args .k)) ((c .before .args .t3))) _ _)
+loop-holds c =
+    let s = c .before in
+    (omega arith, clauses-left (s .args .w) (constraintOf (s .args .code) (s .args .k) (s .args .t3)) _ _)
 
 clause-rule-requires : tie.Need-clause-rule-requires Inv-loop μ-loop
-clause-rule-requires c κs = (clause-stands ((c .before .before .before .before .before .before .args .code)) ((c .before .before .before .before .before .before .args .k)) ((c .before .before .before .before .before .before .args .t3)) ((omega (arith, c .before .before .before .before .before .before .good .1 .1 .0))) ((c .before .before .before .before .before .before .pre .0)) ((c .before .before .before .before .loop .j)) (omega (arith, (c .before .before .before .before .before .clause-count .ensures))), (c .before .before .before .before .before .before .pre .1))
+clause-rule-requires c κs =
+    let s = c .before .before .before .before .before .before in
+    clause-stands (s .args .code) (s .args .k) (s .args .t3) (omega (arith, s .good .1 .1 .0)) (s .pre .0) (s .pre .1) (c .before .before .before .before .loop .j) (omega (arith, c .before .before .before .before .before .clause-count .ensures))
 
 add-j : tie.Need-add-j Inv-loop μ-loop
 add-j c = omega arith
@@ -30,10 +34,17 @@ loop-less : tie.Need-loop-less Inv-loop μ-loop
 loop-less c = omega arith
 
 loop-again : tie.Need-loop-again Inv-loop μ-loop
-loop-again c = (omega arith, clause-done ((c .before .before .before .before .before .before .before .args .n)) (constraintOf ((c .before .before .before .before .before .before .before .args .code)) ((c .before .before .before .before .before .before .before .args .k)) ((c .before .before .before .before .before .before .before .args .t3))) _ _ ((c .before .before .before .before .before .loop .j)) _ _ ((c .before .before .before .before .before .loop .inv .1)) (omega (arith, (c .before .before .before .before .before .before .clause-count .ensures))) _ _ ((c .clause-rule .ensures)))
+loop-again c =
+    let s = c .before .before .before .before .before .before .before in (
+      omega arith,
+      clause-done (s .args .w) (constraintOf (s .args .code) (s .args .k) (s .args .t3)) _ _ (s .pre .1) (c .before .before .before .before .before .loop .j) _ _ (c .before .before .before .before .before .loop .inv .1)
+          (omega (arith, c .before .before .before .before .before .before .clause-count .ensures)) _ _ (c .clause-rule .ensures),
+    )
 
 returns : tie.Need-returns Inv-loop μ-loop
-returns c = no-clause-left ((c .before .before .before .args .n)) (constraintOf ((c .before .before .before .args .code)) ((c .before .before .before .args .k)) ((c .before .before .before .args .t3))) _ _ ((c .before .loop .j)) _ _ ((c .before .loop .inv .1)) (omega (arith, (c .before .before .clause-count .ensures)))
+returns c =
+    let s = c .before .before .before in
+    no-clause-left (s .args .w) (constraintOf (s .args .code) (s .args .k) (s .args .t3)) _ _ (s .pre .1) (c .before .loop .j) _ _ (c .before .loop .inv .1) (omega (arith, c .before .before .clause-count .ensures))
 
 pub clause-rules-spec : {M : Type 1} → statement M
 clause-rules-spec =

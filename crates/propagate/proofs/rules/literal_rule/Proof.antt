@@ -6,9 +6,6 @@ use borrow.Author.Needs.{needs}
 use Rattle.propagate.proofs.rules.literal_rule.Statement.{statement}
 use Rattle.propagate.proofs.rules.literal_rule.Tie as tie
 
-entrants-requires : tie.Need-entrants-requires
-entrants-requires c κs = search needs
-
 literals-false-requires : tie.Need-literals-false-requires
 literals-false-requires c κs = search needs
 
@@ -22,16 +19,20 @@ literal-at-requires : tie.Need-literal-at-requires
 literal-at-requires c κs = search needs
 
 make-true-requires : tie.Need-make-true-requires
-make-true-requires c κs = literal-stands _ (clauseOf ((c .before .before .before .before .before .before .before .before .before .before .args .code)) ((c .before .before .before .before .before .before .before .before .before .before .args .k)) ((c .before .before .before .before .before .before .before .before .before .before .args .j))) ((c .before .before .before .before .before .before .before .before .before .before .args .i)) _ ((c .before .before .before .before .before .before .before .before .before .before .pre .0)) (omega arith) ((c .before .before .literal-at .ensures))
+make-true-requires c κs =
+    let s = c .before .before .before .before .before .before .before .before .before in
+    literal-stands _ (clauseOf (s .args .code) (s .args .k) (s .args .j)) (s .args .i) _ (s .pre .0) (omega arith) (c .before .before .literal-at .ensures)
 
 returns : tie.Need-returns
-returns c = literal-made ((c .before .before .before .before .before .before .before .before .before .before .before .args .fixed .now)) ((c .before .before .before .before .before .before .before .before .before .before .before .args .possible .now)) ((c .before .before .before .before .before .before .before .before .before .before .before .args .ids .now)) (clauseOf ((c .before .before .before .before .before .before .before .before .before .before .before .args .code)) ((c .before .before .before .before .before .before .before .before .before .before .before .args .k)) ((c .before .before .before .before .before .before .before .before .before .before .before .args .j))) ((c .before .before .before .before .before .before .before .before .before .before .before .args .n)) ((c .before .before .before .before .before .before .before .before .before .before .before .args .i)) _ ((c .before .before .before .literal-at .ensures)) ((c .before .before .before .before .before .before .before .before .before .before .before .args .count)) ((c .before .before .before .before .before .before .before .before .before .before .before .pre .1 .1 .1)) (omega (arith, c .before .before .before .before .before .before .before .before .before .before .before .pre .1 .0)) _ _ _ ((c .before .before .before .before .before .before .before .before .entrants .ensures)) ((c .before .before .before .before .before .before .before .literals-false .ensures)) ((c .before .before .before .before .literals-false2 .ensures)) _ _ ((c .make-true .ensures))
+returns c =
+    let s = c .before .before .before .before .before .before .before .before .before .before in
+    literal-made (s .args .fixed .now) (s .args .possible .now) (s .args .ids .now) (clauseOf (s .args .code) (s .args .k) (s .args .j)) (s .args .w) (s .args .i) _
+    (c .before .before .before .literal-at .ensures) (s .args .count) (s .pre .1 .1) _ _ (c .before .before .before .before .before .before .before .literals-false .ensures) (c .before .before .before .before .literals-false2 .ensures) _ _ (c .make-true .ensures)
 
 pub literal-rule-spec : {M : Type 1} → statement M
 literal-rule-spec =
     tie.close
     (tie.spec
-    entrants-requires
     literals-false-requires
     add-literals-false
     literals-false-requires-2
