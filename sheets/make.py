@@ -34,6 +34,16 @@ class Sheet:
         self.line(UNION, whole, *parts)
         return whole
 
+    def apart(self, parts, whole):
+        """Nobody is in two of the parts, of which the whole is the union: one part after the other joins those before it."""
+        before, *others, last = parts
+        for part in others:
+            joined = self.group(0, self.entrants)
+            self.line(EITHER, joined, before, part)
+            self.line(LESS, part, joined, before)
+            before = joined
+        self.line(LESS, last, whole, before)
+
     def differ(self, groups):
         """No two of the groups are the same."""
         for f, g in itertools.combinations(groups, 2):
@@ -236,6 +246,31 @@ def bridge_teams_alike():
     return sheet
 
 
+def conference(rooms=(8, 8, 8)):
+    """A conference of sixty names over three days. Each day all who are there sit in working groups of five to eight, one in each of the day's rooms, everybody in one of them.
+    1 to 8 chair the groups of their rooms. 58 to 60 come on the second day, 33 is away on it, and 41 to 46 leave before the third.
+    1 and 9 to 15 come from one institute, and no two of them sit in one group. On the first day each group has one or two of the newcomers, 49 to 60.
+    From one day to the next at most three stay in a room, the chair among them, and no room has the same group on the first and on the third day."""
+    sheet = Sheet(60)
+    institute, newcomers = [sheet.group(len(names), len(names), fixed=names, barred=set(range(1, 61)) - set(names)) for names in [(1, *range(9, 16)), range(49, 61)]]
+    days = []
+    for count, absent in zip(rooms, [(58, 59, 60), (33,), range(41, 47)]):
+        groups = [sheet.group(5, 8, fixed=(room,), barred=absent) for room in range(1, count + 1)]
+        there = 60 - len(absent)
+        sheet.apart(groups, sheet.split(groups, there, there, barred=absent))
+        for group in groups:
+            sheet.share(1, group, institute)
+        days.append(groups)
+    for group in days[0]:
+        sheet.line(BOTH, sheet.group(1, 2), group, newcomers)
+    for before, after in zip(days, days[1:]):
+        for f, g in zip(before, after):
+            sheet.share(3, f, g)
+    for f, g in zip(days[0], days[2]):
+        sheet.line(DIFFER, f, g)
+    return sheet
+
+
 # the groups of the mixed weekend, on which both committees agreed: the men and the ladies of the club, the flights of Saturday and Sunday, the men and the ladies in each of them,
 # all who play on Saturday and on Sunday, and for each flight of Saturday beside each of Sunday the men who are in both, and the ladies
 THE_MEN, THE_LADIES = 1, 2
@@ -332,6 +367,8 @@ SHEETS = {
     "bridge-teams-differ": (bridge_teams_differ(), "draw"),
     "bridge-one-team-twice": (bridge_one_team_twice(), "no draw"),
     "bridge-teams-alike": (bridge_teams_alike(), "no draw, settled out"),
+    "conference": (conference(), "draw"),
+    "conference-a-room-too-few": (conference(rooms=(8, 8, 7)), "no draw"),
     "golf-mixed-men": (mixed(mixed_men()), "draw"),
     "golf-mixed-ladies": (mixed(mixed_ladies()), "draw"),
     "golf-mixed": (mixed(mixed_men(), mixed_ladies()), "draw"),

@@ -95,6 +95,21 @@ mod tests {
         assert!(draws(F).is_empty());
     }
 
+    /// As many variables as there can be, said in one line: 96 groups of 64 entrants, each other than the next.
+    #[test]
+    fn the_most_variables_are_read_back() {
+        let groups: String = (1..=96).map(|g| format!("   2{g:4}   1  63{}\n", "   1".repeat(64))).collect();
+        let lines: String = (0..256).map(|j| format!("   3   7{:4}{:4}\n", j % 96 + 1, (j + 1) % 96 + 1)).collect();
+        let sheet = format!("   1  64  96 256\n{groups}{lines}");
+        let draw: Vec<u64> = (0..96).map(|g| 1 << 63 | 1 << (g % 2)).collect();
+        let settled = settle(read(sheet.as_bytes()).unwrap()).unwrap();
+        let marks = crate::fill::assignment(&Encoding::of(&settled), &draw);
+        assert_eq!(marks.len(), 59_392);
+        let said: String = marks.iter().zip(1..).map(|(&mark, variable)| format!(" {}", if mark == 1 { variable } else { -variable })).collect();
+        assert_eq!(answer(&sheet, &format!("v{said} 0")), Ok(draw));
+        assert_eq!(answer(&sheet, &format!("v{said}")), Err(27));
+    }
+
     #[test]
     fn the_marks_length() {
         let settled = settle(read(A.as_bytes()).unwrap()).unwrap();

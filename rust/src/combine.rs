@@ -113,6 +113,18 @@ mod tests {
     }
 
     #[test]
+    fn entrant_64_by_the_desks_rule() {
+        let sheet = |mark: u32| read(format!("   1  64   1   0\n   2   1   0  64{}{mark:4}\n", "   1".repeat(63)).as_bytes()).unwrap();
+        for (one, other, mark) in [(0, 0, 0), (0, 1, 0), (1, 0, 0), (1, 1, 1), (1, 2, 2), (2, 1, 2), (2, 2, 2)] {
+            assert_eq!(combine(&sheet(one), &sheet(other)), Ok(sheet(mark)));
+        }
+        for (one, other) in [(0, 2), (2, 0)] {
+            assert_eq!(combine(&sheet(one), &sheet(other)), Err(32));
+            assert_eq!(clash(&sheet(one), &sheet(other)).unwrap().to_string(), "group 1, entrant 64");
+        }
+    }
+
+    #[test]
     fn a_low_above_a_high_is_32_and_an_equal_one_is_not() {
         let sheet = |low: u32, high: u32| format!("   1   3   1   0\n   2   1{low:4}{high:4}   1   1   1\n");
         for (one, other, wanted) in [((2, 3), (0, 1), Some(32)), ((2, 3), (0, 2), None), ((0, 0), (1, 1), Some(32)), ((3, 3), (0, 3), None)] {

@@ -74,7 +74,7 @@ fn push_clause(clause: &[i32], text: &mut Vec<u8>) {
     text.extend_from_slice(&bytes[at..]);
 }
 
-/// The last clause of a line of code 7, of up to 32 literals.
+/// The last clause of a line of code 7, of up to 64 literals.
 #[cold]
 fn push_long_clause(clause: &[i32], text: &mut Vec<u8>) {
     for &literal in clause {
@@ -110,7 +110,7 @@ fn digits_before(mut number: u32, end: usize, bytes: &mut [u8]) -> usize {
 #[cfg(test)]
 mod tests {
     use super::*;
-    use crate::model::{Constraint, Group, Model};
+    use crate::model::{Constraint, Group, Model, BLOCK_BYTES};
     use crate::settle::settle;
     use crate::sheet::read;
 
@@ -160,7 +160,8 @@ mod tests {
             assert_eq!(write_block(encoding, 2, &mut []), Err(24));
             assert_eq!(write_block(encoding, 4, &mut []), Err(23));
         });
-        with(E, |encoding| assert_eq!(write_block(encoding, 1, &mut []), Ok(0)));
+        // a group without a counter has no block
+        with(E, |encoding| assert_eq!(write_block(encoding, 1, &mut []), Err(23)));
     }
 
     /// Two groups of two, all marks open: nothing is dropped or left out.
@@ -216,8 +217,60 @@ mod tests {
         assert_eq!(text.lines().count(), 369_409);
         let last: String = (57_313..=57_344).map(|x| format!("{x} ")).collect();
         assert!(text.ends_with(&format!("\n8192 -32 57344 0\n{last}0\n")));
-        let mut buffer = vec![0; 32_768];
-        assert!((0..=512).all(|block| write_block(&encoding, block, &mut buffer).is_ok()));
+        assert_eq!(encoding.blocks(), 256 * 31 + 256);
+        assert!(longest_block(&encoding) <= BLOCK_BYTES);
+    }
+
+    /// The length of the longest block; together the blocks are the listing.
+    fn longest_block(encoding: &Encoding) -> usize {
+        let (mut buffer, mut text) = (vec![0; BLOCK_BYTES], Vec::new());
+        let lengths = (0..=encoding.blocks()).map(|block| {
+            let length = write_block(encoding, block, &mut buffer).unwrap();
+            text.extend_from_slice(&buffer[..length]);
+            length
+        });
+        let longest = lengths.max().unwrap();
+        assert_eq!(write_block(encoding, encoding.blocks() + 1, &mut buffer), Err(23));
+        assert_eq!(text, listing(encoding));
+        longest
+    }
+
+    /// Sixty-four entrants, ninety-six groups with a counter each, 256 lines of code 7.
+    #[test]
+    fn the_most_variables() {
+        let group = Group { fixed: 0, possible: u64::MAX, low: 1, high: 63 };
+        let line = |first: usize| Constraint { code: 7, groups: vec![first % 96, (first + 1) % 96] };
+        let model = Model { entrants: 64, groups: vec![group; 96], constraints: (0..256).map(line).collect() };
+        let settled = settle(model).unwrap();
+        let encoding = Encoding::of(&settled);
+        let text = String::from_utf8(listing(&encoding)).unwrap();
+        let clauses = 96 * (4_800 + 2) + 256 * (4 * 64 + 1);
+        assert!(text.starts_with(&format!("p cnf 59392 {clauses}\n")), "{}", &text[..30]);
+        assert_eq!(text.lines().count(), clauses + 1);
+        let last: String = (59_329..=59_392).map(|x| format!("{x} ")).collect();
+        assert!(text.ends_with(&format!("{last}0\n")));
+        assert_eq!(encoding.blocks(), 96 * 63 + 256);
+        // the root's block is longer than any block was before
+        assert!((32_769..=BLOCK_BYTES).contains(&longest_block(&encoding)));
+    }
+
+    /// The block of a tree's first node, of its root, of the next tree's, and of the lines.
+    #[test]
+    fn the_blocks_of_two_trees_and_a_line() {
+        let sheet = "   1   3   3   1\n   2   1   1   3   1   1   1\n   2   2   0   3   1   1   1\n   2   3   0   1   1   1   0\n   3   7   2   1\n";
+        with(sheet, |encoding| {
+            let block = |block: usize| {
+                let mut buffer = vec![0; BLOCK_BYTES];
+                write_block(encoding, block, &mut buffer).map(|length| String::from_utf8(buffer[..length].to_vec()).unwrap())
+            };
+            assert_eq!(block(0).unwrap(), format!("p cnf 18 {}\n", 16 + 1 + 6 + 1 + 13));
+            assert_eq!(block(1).unwrap(), "2 3 -9 0\n-3 9 0\n2 -10 0\n-2 9 0\n3 -10 0\n-2 -3 10 0\n");
+            let root = block(2).unwrap();
+            assert!(root.starts_with("1 9 -11 0\n-9 11 0\n") && root.ends_with("-1 -10 13 0\n11 0\n"), "{root}");
+            assert_eq!(block(3).unwrap(), "7 8 -14 0\n-8 14 0\n7 -15 0\n-7 14 0\n8 -15 0\n-7 -8 15 0\n-15 0\n");
+            assert!(block(4).unwrap().ends_with("16 17 18 0\n"));
+            assert_eq!(block(5), Err(23));
+        });
     }
 
     #[test]
@@ -231,7 +284,6 @@ mod tests {
         let text = listing(&encoding);
         assert!(text.starts_with(b"p cnf 49152 475648\n"));
         assert_eq!(text.len(), 8_987_411);
-        let mut buffer = vec![0; 32_768];
-        assert!((0..=512).all(|block| write_block(&encoding, block, &mut buffer).is_ok()));
+        assert!(longest_block(&encoding) <= BLOCK_BYTES);
     }
 }

@@ -6,6 +6,7 @@ extern "C" {
     fn draw_settle(sheet: *const u8, sheet_len: usize, table: *mut u64, table_len: usize) -> u64;
     fn draw_block(sheet: *const u8, sheet_len: usize, block: u32, buffer: *mut u8, buffer_len: usize) -> u64;
     fn draw_blocks(sheet: *const u8, sheet_len: usize, block: u32, buffer: *mut u8, buffer_len: usize) -> u64;
+    fn draw_block_count(sheet: *const u8, sheet_len: usize) -> u64;
     fn draw_line(closed: u32, line: *const u8, line_len: usize, marks: *mut u8, marks_len: usize) -> u32;
     fn draw_close(sheet: *const u8, sheet_len: usize, closed: u32, marks: *const u8, marks_len: usize, groups: *mut u64, groups_len: usize) -> u32;
     fn draw_fill(sheet: *const u8, sheet_len: usize, groups: *const u64, groups_len: usize, marks: *mut u8, marks_len: usize) -> u32;
@@ -13,6 +14,7 @@ extern "C" {
     fn draw_block_model(words: *const u64, words_len: usize, block: u32, buffer: *mut u8, buffer_len: usize) -> u64;
     fn draw_close_model(words: *const u64, words_len: usize, closed: u32, marks: *const u8, marks_len: usize, groups: *mut u64, groups_len: usize) -> u32;
     fn draw_fill_model(words: *const u64, words_len: usize, groups: *const u64, groups_len: usize, marks: *mut u8, marks_len: usize) -> u32;
+    fn draw_block_count_model(words: *const u64, words_len: usize) -> u32;
     fn draw_write_model(words: *const u64, words_len: usize, buffer: *mut u8, buffer_len: usize) -> u64;
     fn draw_combine(first: *const u8, first_len: usize, second: *const u8, second_len: usize, buffer: *mut u8, buffer_len: usize) -> u64;
     fn draw_combine_model(first: *const u64, first_len: usize, second: *const u64, second_len: usize, words: *mut u64, words_len: usize) -> u32;
@@ -52,6 +54,10 @@ impl Calls for Proved {
         unsafe { draw_blocks(sheet.as_ptr(), sheet.len(), block, buffer.as_mut_ptr(), buffer.len()) }
     }
 
+    fn block_count(&self, sheet: &[u8]) -> u64 {
+        unsafe { draw_block_count(sheet.as_ptr(), sheet.len()) }
+    }
+
     fn line(&self, closed: u32, line: &[u8], marks: &mut [u8]) -> u32 {
         unsafe { draw_line(closed, line.as_ptr(), line.len(), marks.as_mut_ptr(), marks.len()) }
     }
@@ -78,6 +84,10 @@ impl Calls for Proved {
 
     fn fill_model(&self, words: &[u64], groups: &[u64], marks: &mut [u8]) -> u32 {
         unsafe { draw_fill_model(words.as_ptr(), words.len(), groups.as_ptr(), groups.len(), marks.as_mut_ptr(), marks.len()) }
+    }
+
+    fn block_count_model(&self, words: &[u64]) -> u32 {
+        unsafe { draw_block_count_model(words.as_ptr(), words.len()) }
     }
 
     fn write_model(&self, words: &[u64], buffer: &mut [u8]) -> u64 {

@@ -198,6 +198,7 @@ fn high_at_most(group: &mut Group, high: u32) -> bool {
 #[cfg(test)]
 mod tests {
     use super::*;
+    use crate::model::{first_entrants, ENTRANTS};
     use crate::sheet::read;
 
     fn settled(sheet: &str) -> Option<Settled> {
@@ -206,7 +207,7 @@ mod tests {
 
     /// A sheet of n entrants, all marks open, with these limits and lines.
     fn sheet(n: u32, limits: &[(u32, u32)], lines: &[(u32, &[usize])]) -> Model {
-        let group = |&(low, high): &(u32, u32)| Group { fixed: 0, possible: (1 << n) - 1, low, high };
+        let group = |&(low, high): &(u32, u32)| Group { fixed: 0, possible: first_entrants(n), low, high };
         let line = |&(code, groups): &(u32, &[usize])| Constraint { code, groups: groups.iter().map(|number| number - 1).collect() };
         Model { entrants: n, groups: limits.iter().map(group).collect(), constraints: lines.iter().map(line).collect() }
     }
@@ -440,6 +441,42 @@ mod tests {
             let settled = marks(model).map(|(marks, _)| marks);
             assert_eq!(settled, (!left.is_empty()).then(|| wanted.map(|marks| text(&marks))));
         }
+    }
+
+    const LAST: u64 = 1 << 63;
+
+    /// Entrant 64 is the only one of 64 not settled alike: in one group fixed, barred or open, in the other open.
+    #[test]
+    fn code_7_with_entrant_64_as_the_only_one_left() {
+        for (f, g, settled_f, settled_g) in [(2, 1, 2, 0), (0, 1, 0, 2), (1, 2, 0, 2), (1, 0, 2, 0), (1, 1, 1, 1)] {
+            let group =
+                |mark: u32| Group { fixed: if mark == 2 { u64::MAX } else { !LAST }, possible: if mark > 0 { u64::MAX } else { !LAST }, low: 0, high: 64 };
+            let model = Model { entrants: ENTRANTS, groups: vec![group(f), group(g)], constraints: vec![Constraint { code: 7, groups: vec![0, 1] }] };
+            let settled = settle(model).unwrap();
+            let marks = [0, 1].map(|at| (settled.model().groups[at].fixed >> 63) + (settled.model().groups[at].possible >> 63));
+            assert_eq!(marks, [settled_f, settled_g]);
+        }
+    }
+
+    #[test]
+    fn entrant_64_by_the_group_rule_and_by_lines() {
+        let open = Group { fixed: 0, possible: u64::MAX, low: 0, high: 64 };
+        let all = Group { fixed: !LAST, low: 64, ..open };
+        let none = Group { fixed: !LAST, high: 63, ..open };
+        let lines = (6, [2, 0, 1]);
+        let model = |groups: [Group; 3]| Model {
+            entrants: ENTRANTS,
+            groups: groups.to_vec(),
+            constraints: vec![Constraint { code: lines.0, groups: lines.1.to_vec() }],
+        };
+        let settled = settle(model([none, all, open])).unwrap();
+        assert_eq!(
+            settled.model().groups.iter().map(|group| (group.fixed, group.possible)).collect::<Vec<_>>(),
+            [(!LAST, !LAST), (u64::MAX, u64::MAX), (u64::MAX, u64::MAX)]
+        );
+        let settled = settle(model([none, none, open])).unwrap();
+        assert_eq!(settled.model().groups[2], Group { fixed: !LAST, possible: !LAST, low: 63, high: 63 });
+        assert!(settle(model([none, all, Group { high: 63, ..open }])).is_none());
     }
 
     #[test]

@@ -95,7 +95,7 @@ impl Reader {
 
     fn take_head(&mut self, fields: &[u32]) -> Result<(), u32> {
         let &[_, n, s, c] = fields else { return Err(COUNT) };
-        if !(1..=ENTRANTS).contains(&n) || !(1..=GROUPS).contains(&s) || c > LINES {
+        if !sizes_in_range(n, s, c) {
             return Err(RANGE);
         }
         self.head = Some((s as usize, c as usize));
@@ -271,7 +271,10 @@ mod tests {
             ("   2   2   0   3", "   2   0   0   3", (8, 3)),
             ("   2   2   0   3", "   2   1   0   4", (7, 3)),
             ("   2   2   0   3", "   2   2   3   2", (7, 3)),
-            ("   1   3   2   1", "   1  33   2   1", (7, 1)),
+            ("   1   3   2   1", "   1  65   2   1", (7, 1)),
+            ("   1   3   2   1", "   1  33  97   1", (7, 1)),
+            ("   1   3   2   1", "   1  64 256   1", (7, 1)),
+            ("   1   3   2   1", "   1  33   2   1", (6, 2)),
             ("   1   3   2   1", "   2   3   2   1", (5, 1)),
         ] {
             assert_eq!(refusal(&A.replace(from, to)), wanted, "{to}");
@@ -375,14 +378,46 @@ mod tests {
 
     #[test]
     fn the_largest_sheet_may_be_blank() {
-        let group = Group { fixed: 0, possible: (1 << ENTRANTS) - 1, low: 0, high: ENTRANTS };
+        let n = NARROW_ENTRANTS;
+        let group = Group { fixed: 0, possible: first_entrants(n), low: 0, high: n };
         let line = |first: usize| Constraint { code: 6, groups: (first..=first + 16).map(|group| group % GROUPS as usize).collect() };
-        let model = Model { entrants: ENTRANTS, groups: vec![group; GROUPS as usize], constraints: (0..LINES as usize).map(line).collect() };
+        let model = Model { entrants: n, groups: vec![group; GROUPS as usize], constraints: (0..LINES as usize).map(line).collect() };
         let sheet = String::from_utf8(write(&model)).unwrap();
-        let blank = sheet.replace(&"   1".repeat(ENTRANTS as usize), &"    ".repeat(ENTRANTS as usize));
+        let blank = sheet.replace(&"   1".repeat(n as usize), &"    ".repeat(n as usize));
         assert_eq!(blank.len(), SHEET_BYTES);
         assert_ne!(blank, sheet);
         assert_eq!(read(blank.as_bytes()), Ok(model));
         assert_eq!(refusal(&(blank + "\n")), (1, 0));
+    }
+
+    /// A head and its group lines, all marks open.
+    fn open_sheet(n: u32, s: u32) -> String {
+        let group = |number: u32| format!("   2{number:4}   0{n:4}{}\n", "   1".repeat(n as usize));
+        format!("   1{n:4}{s:4}   0\n{}", (1..=s).map(group).collect::<String>())
+    }
+
+    #[test]
+    fn up_to_64_entrants_and_96_groups_of_more_than_32() {
+        for (n, s) in [(32, 256), (33, 96), (63, 96), (64, 96), (64, 1)] {
+            assert_eq!(refusal(&open_sheet(n, s)), (0, 0), "{n} entrants, {s} groups");
+        }
+        for (n, s) in [(32, 257), (33, 97), (63, 97), (64, 97), (65, 1), (65, 97)] {
+            assert_eq!(refusal(&open_sheet(n, s)), (7, 1), "{n} entrants, {s} groups");
+        }
+        let model = read(open_sheet(64, 96).as_bytes()).unwrap();
+        assert!(model.groups.iter().all(|group| group.open() == u64::MAX));
+    }
+
+    #[test]
+    fn the_mark_of_entrant_64() {
+        let sheet = |mark: &str| format!("   1  64   1   0\n   2   1   0  64{}{mark}\n", "   0".repeat(63));
+        for (mark, fixed, possible) in [("   0", 0, 0), ("   1", 0, 1 << 63), ("    ", 0, 1 << 63), ("   2", 1 << 63, 1 << 63)] {
+            let model = read(sheet(mark).as_bytes()).unwrap();
+            assert_eq!((model.groups[0].fixed, model.groups[0].possible), (fixed, possible));
+            assert_eq!(write(&model), sheet(mark.replace("    ", "   1").as_str()).as_bytes());
+        }
+        assert_eq!(refusal(&sheet("   3")), (7, 2));
+        assert_eq!(refusal(&sheet("")), (6, 2));
+        assert_eq!(refusal(&sheet("   1   1")), (6, 2));
     }
 }

@@ -64,7 +64,7 @@ pub fn from_words(words: &[u64]) -> Result<Model, u32> {
 fn model_of(words: &[u64]) -> Option<Model> {
     let number = |at: usize| words.get(at).copied().unwrap_or(0) as u32;
     let [n, s, c] = [0, 1, 2].map(number);
-    if !(1..=ENTRANTS).contains(&n) || !(1..=GROUPS).contains(&s) || c > LINES {
+    if !sizes_in_range(n, s, c) {
         return None;
     }
     let group = |index: u32| group_of(n, group_at(words, index as usize));
@@ -84,7 +84,7 @@ pub fn group_at(words: &[u64], index: usize) -> Group {
 
 /// Entrants up to n, fixed within possible, low ≤ high ≤ n.
 fn group_of(n: u32, group: Group) -> Option<Group> {
-    let good = group.possible >> n == 0 && group.fixed & !group.possible == 0 && group.low <= group.high && group.high <= n;
+    let good = group.possible & !first_entrants(n) == 0 && group.fixed & !group.possible == 0 && group.low <= group.high && group.high <= n;
     good.then_some(group)
 }
 
@@ -132,11 +132,33 @@ mod tests {
     #[test]
     fn refusal_20_by_each_field() {
         let words = to_words(&read(SHEET.as_bytes()).unwrap(), 0);
-        let bad = [(0, 33), (1, 257), (1, 1), (2, 257), (3, 16), (4, 8), (5, 2), (6, 4), (1027, 0), (1027, 6), (1027, 8), (1029, 3), (1029, 2), (1030, 0)];
+        let bad = [(0, 65), (1, 257), (1, 1), (2, 257), (3, 16), (4, 8), (5, 2), (6, 4), (1027, 0), (1027, 6), (1027, 8), (1029, 3), (1029, 2), (1030, 0)];
         for (place, value) in bad {
             let mut words = words.clone();
             words[place] = value;
             assert_eq!(from_words(&words), Err(20), "word {place} as {value}");
+        }
+    }
+
+    /// Groups past those of the sheet are empty, and have no entrant past n.
+    #[test]
+    fn up_to_64_entrants_and_96_groups_of_more_than_32() {
+        let model = read(SHEET.as_bytes()).unwrap();
+        for (n, s, good) in
+            [(32, 256, true), (32, 257, false), (33, 96, true), (33, 97, false), (64, 96, true), (64, 97, false), (64, 256, false), (65, 1, false)]
+        {
+            let mut words = to_words(&model, 0);
+            (words[0], words[1]) = (n, s);
+            assert_eq!(from_words(&words).is_ok(), good, "{n} entrants, {s} groups");
+        }
+    }
+
+    #[test]
+    fn an_entrant_past_n_is_20_and_entrant_64_is_not() {
+        for (n, last, good) in [(33, 32, true), (33, 33, false), (63, 62, true), (63, 63, false), (64, 63, true)] {
+            let mut words = to_words(&read(SHEET.as_bytes()).unwrap(), 0);
+            (words[0], words[FIRST_GROUP + 1]) = (n, 7 | 1 << last);
+            assert_eq!(from_words(&words).is_ok(), good, "{n} entrants, bit {last}");
         }
     }
 }

@@ -58,7 +58,7 @@ sheet-line b =
     same-or (ltb (limits .sheet) (length b)) _ _ first
     (same-or (eqb (length b) 0) _ _ second (same-or (eqb (getD b (length b - 1) 0) 10) _ _ (lines-line (linesOf b) 0 zeroModel) second))
 
-accepted-of : (b : List ℕ) (r : SheetRead) → r ≡ readSheet b → r .refusal ≡ 0 → Accepted b (r .model)
+pub accepted-of : (b : List ℕ) (r : SheetRead) → r ≡ readSheet b → r .refusal ≡ 0 → Accepted b (r .model)
 accepted-of b r e z =
     let l : r .line ≡ 0 = ap (λ (x : SheetRead). x .line) e ∙ sheet-line b (sym (ap (λ (x : SheetRead). x .refusal) e) ∙ z) in
     sym e ∙ ap₂ (λ (x y : ℕ). record { refusal = x; line = y; model = r .model }) z l

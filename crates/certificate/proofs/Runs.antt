@@ -1,7 +1,7 @@
 -- The text of a run of blocks is the text of clauses that a satisfying assignment makes true. Assumes nothing.
 use Prim.Native.Nat.{ℕ, suc, _+_, _-_, _≤_, _<_}
 use mathlib.Core.Path.{_≡_, refl, sym, ap, _∙_, subst}
-use mathlib.Core.Bool.{Bool, false}
+use mathlib.Core.Bool.{Bool, false, cond}
 use mathlib.Core.List.{List, [], _∷_, _++_}
 use native.Mathlib.Omega.{arith}
 use borrow.Author.Tests.{ne-eqb}
@@ -15,11 +15,12 @@ use Rattle.model.specs.Propagate.{Settled}
 use Rattle.model.specs.Cnf.{variableCount, blockCount, blockClauses, clauses}
 use Rattle.model.specs.Text.{clauseText, blockText}
 use Rattle.model.specs.Close.{clauseTrue, satisfying}
-use Rattle.model.proofs.Lists.{All, all-imp, all-left, all-right, and-left, and-right, every-append, each-append, each-each, each-range-ext, range-append}
+use Rattle.model.specs.Model.{inRange}
+use Rattle.model.proofs.Lists.{T-true, All, all-imp, all-left, all-right, and-left, and-right, every-append, each-append, each-each, each-range-ext, range-append}
 use Rattle.encoding_laws.proofs.Ranges.{In, variables-in}
 use Rattle.encoding_laws.proofs.Bounds.{variables-bound}
 use Rattle.cnf.specs.declared.Run.{Run}
-use Rattle.cnf.specs.Run.{runLength, runText, runOf, runBuffer}
+use Rattle.cnf.specs.Run.{textTo, runTo, bufferTo, runLength, runText, runOf, runBuffer}
 use Rattle.cnf.proofs.Runs.{run-ends}
 use Rattle.loading.specs.Loading.{Small, Loads}
 use Rattle.refutation.specs.declared.State.{State}
@@ -57,7 +58,7 @@ to-small v h cs t = all-imp (All (In 1 (suc v))) (All Small) (λ c u. all-imp (I
 
 module _ (m : Model) (q : Settled m) (b room : ℕ) (h : 1 ≤ b) (l : b ≤ blockCount m) (a : List Bool) (t : T (satisfying m a)) where
   run-loads : Loads a (run-clauses m b (runLength m b room)) (runText m b room)
-  unfolding runText runOf satisfying
+  unfolding runText textTo runOf runTo satisfying
   run-loads =
       let n = runLength m b room in
       let k = blockCount m + 1 - (b + n) in
@@ -74,9 +75,13 @@ module _ (m : Model) (q : Settled m) (b room : ℕ) (h : 1 ≤ b) (l : b ≤ blo
             (and-right (every (clauseTrue a) p) (every (clauseTrue a) (r ++ w)) (subst T (ap (every (clauseTrue a)) s ∙ every-append (clauseTrue a) p (r ++ w)) t)));
       }
 
+-- a settled model's last block
+pub last-is : (m : Model) → Settled m → (last : ℕ) → last ≡ cond (inRange m) (blockCount m) 0 → last ≡ blockCount m
+last-is m q last e = e ∙ ap (λ (b : Bool). cond b (blockCount m) 0) (T-true (inRange m) (q .in-range))
+
 -- the part of the buffer that a run wrote
 run-part : (m : Model) (b : ℕ) (buf after : List ℕ) (r : Run) → r ≡ runOf m b (length buf) → after ≡ runBuffer m b buf → take (r .length) after ≡ runText m b (length buf)
-unfolding runOf runBuffer
+unfolding runOf runTo runText runBuffer bufferTo
 run-part m b buf after r e q =
     let n : r .length ≡ length (runText m b (length buf)) = ap (λ (x : Run). x .length) e in
     ap (λ (k : ℕ). take k after) n ∙ ap (take (length (runText m b (length buf)))) q

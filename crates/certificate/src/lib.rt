@@ -63,10 +63,10 @@ fn load_blocks(
     requires { ⌜ 1 ≤ b ⌝ }
     ensures { λ r. ⌜ (Settled m → (a : List Bool) → T (satisfying m a) → Holds a (l .state) (now (store .entry)) (now (index .entry)) (now (marks .entry)) → Holds a (r .state) (now (store .exit)) (now (index .exit)) (now (marks .exit))) ⌝ }
 {
-    let last = m.s as u64 + m.c as u64;
+    let last = blocks::block_count(m);
     let mut q = l;
     let mut x = b;
-    while x as u64 <= last {
+    while x <= last {
         let r = cnf::write_blocks(m, x, text);
         if r.refusal != 0 {
             return not_loaded(q);

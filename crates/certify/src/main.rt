@@ -1,8 +1,9 @@
 // Whether a certificate shows that a sheet has no draw: the sheet is the file that argument 1 names, the certificate comes on standard input.
 ghost use mathlib.Core.Path.{_≡_};
 ghost use mathlib.Core.List.{List};
-ghost use Prim.Native.Nat.{ℕ};
+ghost use Prim.Native.Nat.{ℕ, _+_, _*_};
 ghost use lib.ListN.{length};
+ghost use Rattle.model.specs.Limits.{limits};
 ghost use Rattle.report.specs.Messages.{Counted};
 ghost use Rattle.certificate.specs.NoDraw.{Stands};
 use certificate::Standing;
@@ -16,9 +17,10 @@ use report::Message;
 // Places for clauses, numbers of clauses, and a word for each literal of the largest listing: what 8 MB of stack hold.
 const STORE: usize = 1048576;
 
-const NUMBERS: usize = 524288;
+const NUMBERS: usize = 540672;
 
-const LITERALS: usize = 98306;
+const LITERALS: usize = 2 * Model::VARIABLES + 2;
+
 // Some blocks of the listing at a time.
 const TEXT: usize = 131072;
 
@@ -87,13 +89,13 @@ fn store_space() -> [u32; STORE]
 }
 
 fn number_space() -> [u32; NUMBERS]
-    ensures { λ r. ⌜ length r ≡ 524288 ⌝ }
+    ensures { λ r. ⌜ length r ≡ 540672 ⌝ }
 {
     [0; NUMBERS]
 }
 
 fn literal_space() -> [u32; LITERALS]
-    ensures { λ r. ⌜ length r ≡ 98306 ⌝ }
+    ensures { λ r. ⌜ length r ≡ 2 * limits .variables + 2 ⌝ }
 {
     [0; LITERALS]
 }

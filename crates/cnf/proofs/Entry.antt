@@ -1,12 +1,11 @@
 -- What the entry answers: a refusal, or the block's text. Assumes nothing.
 use mathlib.Core.Path.{_≡_, refl, sym, ap, _∙_, subst}
 use mathlib.Core.Bool.{Bool, true, false, cond, not}
-use mathlib.Core.List.{List, _++_}
-use Prim.Native.Nat.{ℕ, zero, suc, _+_, _≤_, _<_}
-use native.Mathlib.Nat.{zero-add}
+use mathlib.Core.List.{List}
+use Prim.Native.Nat.{ℕ, zero, suc, _≤_, _<_}
 use native.Mathlib.Omega.{arith}
 use native.Mathlib.Decide.{decLt}
-use borrow.Author.Tests.{lt-ltb, le-ltb, ne-eqb, leb-true, leb-false, not-true, not-false}
+use borrow.Author.Tests.{lt-ltb, le-ltb, ne-eqb, leb-true, leb-false}
 use lib.Dec.{T, leb, ltb, eqb, eqb·suc-zero, nltb→le}
 use lib.ListN.{length, drop}
 use Rattle.model.specs.declared.Model.{Model}
@@ -24,7 +23,6 @@ use Rattle.propagation_laws.proofs.Ranges.{in-range}
 use Rattle.encoding_laws.specs.Steps.{BySteps}
 use Rattle.encoding_laws.proofs.Nonempty.{no-empty-clause}
 use Rattle.encoding_laws.proofs.Steps.{by-steps}
-use Rattle.text.specs.Put.{Wrote}
 use Rattle.blocks.specs.Blocks.{judgement}
 use Rattle.cnf.specs.Parts.{blockLength}
 
@@ -91,14 +89,16 @@ module _ (m : Model) (b r : ℕ) (e : r ≡ judgement m b) (z : r ≡ 0) where
         sized = record { groups = omega (arith, i .groupCount); constraints = omega (arith, i .constraintCount) };
       }
 
+-- ---- a text that fits or not
+
+module _ {t : Bool} (text : List ℕ) (left : ℕ) (e : t ≡ leb (length text) left) where
+  pub does-fit : t ≡ true → length text ≤ left
+  does-fit h = leb-true (length text) left (sym e ∙ h)
+
+  pub does-not-fit : t ≡ false → left < length text
+  does-not-fit h = leb-false (length text) left (sym e ∙ h)
+
 -- ---- a settled model's block
-
-module _ {t : Bool} (m : Model) (b left : ℕ) (e : t ≡ leb (length (blockText m b)) left) where
-  pub does-fit : not t ≡ false → length (blockText m b) ≤ left
-  does-fit h = leb-true (length (blockText m b)) left (sym e ∙ not-false t h)
-
-  pub does-not-fit : not t ≡ true → left < length (blockText m b)
-  does-not-fit h = leb-false (length (blockText m b)) left (sym e ∙ not-true t h)
 
 module _ (m : Model) (q : Settled m) (b : ℕ) (h : b ≤ blockCount m) where
   judged-24 : (room : ℕ) → blockRefusal m b room ≡ stop (ltb room (length (blockText m b))) 24 0
@@ -112,24 +112,6 @@ module _ (m : Model) (q : Settled m) (b : ℕ) (h : b ≤ blockCount m) where
 
   pub not-refused : (room : ℕ) → length (blockText m b) ≤ room → blockRefusal m b room ≡ 0
   not-refused room l = rw (judged-24 room, le-ltb room (length (blockText m b)) l)
-
-  pub too-short : (room : ℕ) → room < length (blockText m b) → Refused 24 ≡ writtenBlock m b room
-  unfolding writtenBlock
-  too-short room l = rw (refused-24 room l)
-
-  pub short-buffer : (buf : List ℕ) → length buf < length (blockText m b) → buf ≡ blockBuffer m b buf
-  unfolding blockBuffer
-  short-buffer buf l = rw (refused-24 (length buf) l)
-
-  pub long-enough : (room n : ℕ) → n ≡ length (blockText m b) → n ≤ room → Bytes n ≡ writtenBlock m b room
-  unfolding writtenBlock
-  long-enough room n e l = rw (not-refused room (omega arith), e)
-
-  pub written-buffer : (buf after : List ℕ) (n : ℕ) → Wrote (blockText m b) 0 buf after n → after ≡ blockBuffer m b buf
-  unfolding blockBuffer
-  written-buffer buf after n w =
-      let l : length (blockText m b) ≤ length buf = omega (arith, w .next, w .inside) in
-      rw (not-refused (length buf) l) (w .bytes ∙ ap (λ (k : ℕ). blockText m b ++ drop k buf) (zero-add (length (blockText m b))))
 
 -- ---- the answer by the paper's number and value
 

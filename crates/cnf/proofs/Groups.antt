@@ -1,40 +1,53 @@
--- The text of a group's totalizer. Assumes nothing.
-use mathlib.Core.Path.{_≡_, sym, _∙_}
-use mathlib.Core.Bool.{true, false}
+-- The text of a group's block. Assumes nothing.
+use mathlib.Core.Path.{_≡_, refl, ap}
+use mathlib.Core.Bool.{Bool, true, false, cond}
 use mathlib.Core.List.{[]}
-use Prim.Native.Nat.{ℕ, _≤_}
+use Prim.Native.Nat.{ℕ, _+_, _-_, _≤_, _<_}
+use native.Mathlib.Omega.{arith}
+use lib.ListN.{getD}
 use Rattle.model.specs.declared.Group.{Group}
 use Rattle.model.specs.Lists.{each}
-use Rattle.model.specs.Totalizer.{totalizerClauses}
-use Rattle.model.specs.Cnf.{openCount, atLeast, atMost, counted}
-use Rattle.model.specs.Text.{clauseText}
 use Rattle.model.specs.Limits.{limits}
-use Rattle.model.proofs.Lists.{true-T}
+use Rattle.model.specs.Totalizer.{totalizerBlocks, treeOutputCount}
+use Rattle.model.specs.Cnf.{openCount, counted, outputsOf}
+use Rattle.model.specs.Text.{clauseText}
+use Rattle.encoding_laws.specs.Division.{nodesOf}
 use Rattle.encoding_laws.proofs.Fixpoint.{SettledAmong}
-use Rattle.encoding_laws.proofs.Whole.{counted-pos}
 use Rattle.numbering.specs.declared.Totalizer.{Totalizer}
 use Rattle.numbering.specs.Numbering.{totalizerOf}
-use Rattle.numbering.proofs.Totalizers.{totalizer-parts}
-use Rattle.counts.proofs.Groups.{low-few}
-use Rattle.cnf.specs.Parts.{groupText}
+use Rattle.numbering.proofs.Totalizers.{totalizer-parts, some-outputs}
+use Rattle.counts.proofs.Groups.{low-few, high-few}
+use Rattle.cnf.specs.Parts.{groupBlockText, Among}
 
-module _ (g : Group) (e : counted g ≡ false) where
-  pub none-text : (v o : ℕ) → groupText g v o ≡ []
-  unfolding groupText
-  none-text v o = rw e
+pub nodes-few : (g : Group) → nodesOf g ≤ openCount g
+unfolding nodesOf
+nodes-few g = go (counted g)
+  where
+    go : (b : Bool) → cond b (openCount g - 1) 0 ≤ openCount g
+    go true = omega arith
+    go false = omega arith
 
-module _ (g : Group) (s : SettledAmong (limits .entrants) g) (e : counted g ≡ true) where
-  pub some-open : 1 ≤ openCount g
-  unfolding counted
-  some-open = counted-pos (atLeast g) (atMost g) (openCount g) (low-few g s) (true-T (counted g) e)
+-- a group that has a block has a totalizer with such a node
+pub has-node : (g : Group) (k : ℕ) → k < nodesOf g → (counted g ≡ true) × (k + 2 ≤ openCount g)
+unfolding nodesOf
+has-node g k h = go (counted g) refl h
+  where
+    go : (b : Bool) → counted g ≡ b → k < cond b (openCount g - 1) 0 → (counted g ≡ true) × (k + 2 ≤ openCount g)
+    go true e l = (e, omega arith)
+    go false e l = absurd (omega arith)
 
-  pub some-text : (v o : ℕ) → groupText g v o ≡ each clauseText (totalizerClauses (openCount g) v o (atLeast g) (atMost g))
-  unfolding groupText
-  some-text v o = rw e
-
+-- what its parts ask, by the totalizer that was worked out
 module _ (g : Group) (r : Totalizer) (e : r ≡ totalizerOf g) where
-  pub totalizer-text : SettledAmong (limits .entrants) g → r .exists ≡ true → (v o : ℕ)
-      → each clauseText (totalizerClauses (r .size) v o (r .low) (r .high)) ≡ groupText g v o
-  totalizer-text s h v o =
+  pub node-asks : (v o k : ℕ) → k < nodesOf g → Among v (openCount g) → Among o (outputsOf g)
+      → (k + 2 ≤ r .size) × Among v (r .size) × Among o (treeOutputCount (r .size))
+  node-asks v o k l a b =
       let p = totalizer-parts g r e in
-      rw (p .0, p .1, p .2) (sym (some-text g s (sym (p .3) ∙ h) v o))
+      let n = has-node g k l in
+      (omega (arith, p .0, n .1), omega (arith, p .0, a), omega (arith, ap treeOutputCount (p .0), some-outputs g (n .0), b))
+
+  pub units-ask : SettledAmong (limits .entrants) g → (r .low ≤ r .size) × (r .high ≤ r .size)
+  units-ask s = let p = totalizer-parts g r e in (omega (arith, p .0, p .1, low-few g s), omega (arith, p .0, p .2, high-few g s))
+
+  pub block-text : (v o k : ℕ) → each clauseText (getD (totalizerBlocks (r .size) v o (r .low) (r .high)) k []) ≡ groupBlockText g v o k
+  unfolding groupBlockText
+  block-text v o k = let p = totalizer-parts g r e in rw (p .0, p .1, p .2)

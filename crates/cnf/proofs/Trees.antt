@@ -1,22 +1,26 @@
--- Laws of a totalizer's text: the node's clauses as rows, the tree from its halves, the units. Assumes nothing.
+-- Laws of a totalizer's text: the node's clauses as rows, which node is the k-th, the units, a block. Assumes nothing.
 use mathlib.Core.Path.{_≡_, refl, sym, ap, ap₂, _∙_}
 use mathlib.Core.Bool.{Bool, true, false}
 use mathlib.Core.List.{List, [], _∷_, _++_, map, append-nil, append-assoc}
 use Prim.Native.Nat.{ℕ, zero, suc, _+_, _-_, _/_, _≤_, _<_}
 use native.Mathlib.Numerals.{add-one}
 use native.Mathlib.Omega.{arith}
-use lib.ListN.{length, length-append}
+use native.Mathlib.Decide.{decLt}
+use lib.Dec.{eqb}
+use lib.ListN.{length, getD, length-append}
+use borrow.Author.Tests.{eq-eqb, ne-eqb}
 use Rattle.model.specs.declared.Literal.{Literal}
 use Rattle.model.specs.declared.Literal.the-variants.{Pos, Neg}
 use Rattle.model.specs.declared.Node.{Node}
 use Rattle.model.specs.declared.Term.the-variants.{Fails, Open}
 use Rattle.model.specs.Lists.{each, range}
-use Rattle.model.specs.Totalizer.{Shape, keep, dropped, rowClauses, nodeClauses, shape, rootOutput, nodes, treeClauses, unit, unitClauses, totalizerClauses, treeOutputCount}
+use Rattle.model.specs.Totalizer.{Shape, keep, dropped, rowClauses, nodeClauses, shape, rootOutput, unit, unitClauses, totalizerBlocks, treeOutputCount}
 use Rattle.model.specs.Text.{clauseText}
 use Rattle.model.proofs.Lists.{each-append, each-each, each-map, each-range-ext}
-use Rattle.encoding_laws.proofs.Totalizer.{tree-step, root-step, shape-one}
+use Rattle.encoding_laws.proofs.Totalizer.{root-step, shape-one}
 use Rattle.encoding_laws.proofs.Counts.{outputs-count, output-count-step}
-use Rattle.cnf.specs.Parts.{pairText, rowText, nodeText, treeText, signed, unitText, Among, Small}
+use Rattle.encoding_laws.proofs.Blocks.{node-left, node-right, node-root, unitsAt, totalizer-block}
+use Rattle.cnf.specs.Parts.{pairText, rowText, nodeText, zeroNode, nodeAt, signed, unitText, Among, Small}
 use Rattle.text.specs.Put.{keptText}
 
 -- ---- a node
@@ -33,11 +37,7 @@ node-text t =
         each-each clauseText (dropped t p) (range 0 (suc (t .b)))
         ∙ ap (λ (k : ℕ). each (pairText t p) (range 0 k)) (sym (add-one (t .b)))
 
--- ---- the tree
-
-pub tree-one : (m v o : ℕ) → m < 2 → treeText m v o ≡ []
-unfolding treeText treeClauses nodes
-tree-one m v o h = ap (λ (s : Shape). each clauseText (treeClauses s v o)) (shape-one m (omega arith))
+-- ---- the tree's root
 
 pub root-one : (m v o : ℕ) → m < 2 → rootOutput (shape m) v o ≡ v
 root-one m v o h = ap (λ (s : Shape). rootOutput s v o) (shape-one m (omega arith))
@@ -49,29 +49,25 @@ pub root-among : (m v o : ℕ) → 1 ≤ m → Among v m → Among o (treeOutput
 root-among (suc zero) v o h x y = omega (arith, root-one 1 v o (omega arith))
 root-among (suc (suc m)) v o h x y = omega (arith, root-more (suc (suc m)) v o (omega arith))
 
+-- ---- node k
+
 -- the node over the halves of m
 abbrev nodeOf : (m c d n : ℕ) → Node
 nodeOf m c d n = record { c = c; a = m / 2; d = d; b = m - m / 2; n = n }
 
 module _ (m v o p own c d : ℕ) (h : 2 ≤ m) (hp : p ≡ o + treeOutputCount (m / 2)) (hown : own ≡ p + treeOutputCount (m - m / 2))
     (hc : c ≡ rootOutput (shape (m / 2)) v o) (hd : d ≡ rootOutput (shape (m - m / 2)) (v + m / 2) p) where
-  pub tree-text : treeText m v o ≡ (treeText (m / 2) v o ++ treeText (m - m / 2) (v + m / 2) p) ++ nodeText (nodeOf m c d own)
-  unfolding treeText
-  tree-text =
-      let a = outputs-count (m / 2) in
-      let b = outputs-count (m - m / 2) in
-      ap (each clauseText) (tree-step m v o h)
-      ∙ rw (a, b, ← hp, ← hown, ← hc, ← hd)
-      (each-append clauseText (treeClauses (shape (m / 2)) v o ++ treeClauses (shape (m - m / 2)) (v + m / 2) p) (nodeClauses (nodeOf m c d own))
-      ∙ ap₂ (λ (x y : List ℕ). x ++ y) (each-append clauseText (treeClauses (shape (m / 2)) v o) (treeClauses (shape (m - m / 2)) (v + m / 2) p))
-      (node-text (nodeOf m c d own)))
+  pub left-is : (k : ℕ) → k + 1 < m / 2 → nodeAt (m / 2) v o k ≡ nodeAt m v o k
+  unfolding nodeAt
+  left-is k l = sym (node-left m v o h k zeroNode l)
 
-  pub tree-length : length (treeText m v o)
-      ≡ length (treeText (m / 2) v o) + length (treeText (m - m / 2) (v + m / 2) p) + length (nodeText (nodeOf m c d own))
-  tree-length =
-      ap length tree-text
-      ∙ length-append (treeText (m / 2) v o ++ treeText (m - m / 2) (v + m / 2) p) (nodeText (nodeOf m c d own))
-      ∙ ap (λ (k : ℕ). k + length (nodeText (nodeOf m c d own))) (length-append (treeText (m / 2) v o) (treeText (m - m / 2) (v + m / 2) p))
+  pub right-is : (k : ℕ) → m / 2 ≤ k + 1 → k + 2 < m → nodeAt (m - m / 2) (v + m / 2) p (k + 1 - m / 2) ≡ nodeAt m v o k
+  unfolding nodeAt
+  right-is k l r = rw hp (sym (node-right m v o h k zeroNode l r))
+
+  pub root-is : (k : ℕ) → k + 2 ≡ m → nodeOf m c d own ≡ nodeAt m v o k
+  unfolding nodeAt
+  root-is k e = rw (hown, hc, hd, hp) (sym (node-root m v o h k zeroNode e))
 
   pub outputs-more : treeOutputCount m ≡ m + treeOutputCount (m / 2) + treeOutputCount (m - m / 2)
   outputs-more = output-count-step m h
@@ -101,19 +97,42 @@ units-text first m L U =
     each-append clauseText (map (unit Pos first) (range 0 L)) (map (unit Neg first) (range U (m - U)))
     ∙ ap₂ (λ (x y : List ℕ). x ++ y) (each-map clauseText (unit Pos first) (range 0 L)) (each-map clauseText (unit Neg first) (range U (m - U)))
 
-module _ (m v o L U first : ℕ) (e : first ≡ rootOutput (shape m) v o) where
-  pub totalizer-text : each clauseText (totalizerClauses m v o L U)
-      ≡ (treeText m v o ++ each (unitText true first) (range 0 L)) ++ each (unitText false first) (range U (m - U))
-  unfolding totalizerClauses treeText
-  totalizer-text =
-      each-append clauseText (treeClauses (shape m) v o) (unitClauses (rootOutput (shape m) v o) m L U)
-      ∙ ap (λ (k : ℕ). treeText m v o ++ each clauseText (unitClauses k m L U)) (sym e)
-      ∙ ap (λ (l : List ℕ). treeText m v o ++ l) (units-text first m L U)
-      ∙ sym (append-assoc (treeText m v o) (each (unitText true first) (range 0 L)) (each (unitText false first) (range U (m - U))))
+-- ---- a block of a totalizer: of a node below the root, and of the root
 
-  pub totalizer-length : length (each clauseText (totalizerClauses m v o L U))
-      ≡ length (treeText m v o) + length (each (unitText true first) (range 0 L)) + length (each (unitText false first) (range U (m - U)))
-  totalizer-length =
-      ap length totalizer-text
-      ∙ length-append (treeText m v o ++ each (unitText true first) (range 0 L)) (each (unitText false first) (range U (m - U)))
-      ∙ ap (λ (k : ℕ). k + length (each (unitText false first) (range U (m - U)))) (length-append (treeText m v o) (each (unitText true first) (range 0 L)))
+module _ (m v o L U k : ℕ) where
+  abbrev blockOf : List (List Literal)
+  blockOf = getD (totalizerBlocks m v o L U) k []
+
+  pub below-text : k + 2 < m → nodeText (nodeAt m v o k) ≡ each clauseText blockOf
+  unfolding nodeAt unitsAt
+  below-text h =
+      let none : eqb (k + 2) m ≡ false = ne-eqb (k + 2) m (λ e. omega arith) in
+      let is : blockOf ≡ nodeClauses (nodeAt m v o k) =
+      totalizer-block m v o L U k zeroNode (omega arith) ∙ rw none (append-nil (nodeClauses (nodeAt m v o k))) in
+      sym (ap (each clauseText) is ∙ node-text (nodeAt m v o k))
+
+  module _ (first : ℕ) (e : first ≡ rootOutput (shape m) v o) (h : k + 2 ≡ m) where
+    pub root-text : (nodeText (nodeAt m v o k) ++ each (unitText true first) (range 0 L)) ++ each (unitText false first) (range U (m - U)) ≡ each clauseText blockOf
+    unfolding nodeAt unitsAt
+    root-text =
+        let us = unitClauses (rootOutput (shape m) v o) m L U in
+        let is : blockOf ≡ nodeClauses (nodeAt m v o k) ++ us = totalizer-block m v o L U k zeroNode (omega arith) ∙ rw (eq-eqb (k + 2) m h) in
+        sym (ap (each clauseText) is
+        ∙ each-append clauseText (nodeClauses (nodeAt m v o k)) us
+        ∙ ap₂ (λ (x y : List ℕ). x ++ y) (node-text (nodeAt m v o k)) (ap (λ (n : ℕ). each clauseText (unitClauses n m L U)) (sym e) ∙ units-text first m L U)
+        ∙ sym (append-assoc (nodeText (nodeAt m v o k)) (each (unitText true first) (range 0 L)) (each (unitText false first) (range U (m - U)))))
+
+    pub root-length : length (each clauseText blockOf)
+        ≡ length (nodeText (nodeAt m v o k)) + length (each (unitText true first) (range 0 L)) + length (each (unitText false first) (range U (m - U)))
+    root-length =
+        ap length (sym root-text)
+        ∙ length-append (nodeText (nodeAt m v o k) ++ each (unitText true first) (range 0 L)) (each (unitText false first) (range U (m - U)))
+        ∙ ap (λ (n : ℕ). n + length (each (unitText false first) (range U (m - U)))) (length-append (nodeText (nodeAt m v o k)) (each (unitText true first) (range 0 L)))
+
+  -- the node's clauses come first
+  pub node-within : k + 2 ≤ m → length (nodeText (nodeAt m v o k)) ≤ length (each clauseText blockOf)
+  node-within h = go (decLt (k + 2) m)
+    where
+      go : Dec (k + 2 < m) → length (nodeText (nodeAt m v o k)) ≤ length (each clauseText blockOf)
+      go (yes l) = omega (arith, ap length (below-text l))
+      go (no l) = omega (arith, root-length (rootOutput (shape m) v o) refl (omega arith))

@@ -1,9 +1,11 @@
 -- The parts that the block writer's functions write, as texts of the definitions' clauses. Assumes nothing.
-use Prim.Native.Nat.{ℕ, suc, _+_, _≤_}
+use Prim.Native.Nat.{ℕ, suc, _+_, _≤_, _<_}
+use mathlib.Core.Path.{_≡_}
+use mathlib.Core.Logic.{_⊎_}
 use mathlib.Core.Bool.{Bool, true, false, cond}
 use mathlib.Core.List.{List, [], _∷_, map}
 use lib.Dec.{eqb}
-use lib.ListN.{length}
+use lib.ListN.{length, getD}
 use Rattle.model.specs.declared.Literal.{Literal}
 use Rattle.model.specs.declared.Literal.the-variants.{Pos, Neg}
 use Rattle.model.specs.declared.Term.{Term}
@@ -13,8 +15,8 @@ use Rattle.model.specs.declared.Model.{Model}
 use Rattle.model.specs.Lists.{each, range}
 use Rattle.model.specs.Limits.{limits}
 use Rattle.model.specs.Clauses.{memberClauses}
-use Rattle.model.specs.Cnf.{openCount, atLeast, atMost, counted}
-use Rattle.model.specs.Totalizer.{dropped, shape, treeClauses, unit, totalizerClauses}
+use Rattle.model.specs.Cnf.{openCount, atLeast, atMost, nodeBlocks}
+use Rattle.model.specs.Totalizer.{dropped, shape, nodes, unit, totalizerBlocks}
 use Rattle.model.specs.Text.{clauseText, blockText, blockRefusal}
 use Rattle.terms.specs.declared.Member.{Member}
 use Rattle.text.specs.Put.{keptText}
@@ -37,10 +39,15 @@ rowText t p = each (pairText t p) (range 0 (t .b + 1))
 unfoldable pub nodeText : Node → List ℕ
 nodeText t = each (rowText t) (range 0 (t .a + 1))
 
--- ---- the tree and its units
+-- ---- a tree's nodes and units
 
-unfoldable pub treeText : ℕ → ℕ → ℕ → List ℕ
-treeText m v o = each clauseText (treeClauses (shape m) v o)
+-- what stands for a node that a tree does not have
+abbrev pub zeroNode : Node
+zeroNode = record { c = 0; a = 0; d = 0; b = 0; n = 0 }
+
+-- node k of the tree of size m, in the tree's order from 0
+unfoldable pub nodeAt : ℕ → ℕ → ℕ → ℕ → Node
+nodeAt m v o k = getD (nodes (shape m) v o) k zeroNode
 
 -- a literal by its sign
 abbrev pub signed : Bool → ℕ → Literal
@@ -50,9 +57,9 @@ signed false v = Neg v
 unfoldable pub unitText : Bool → ℕ → ℕ → List ℕ
 unitText s first i = clauseText (unit (signed s) first i)
 
--- the text of a group's totalizer, its variables from v on and the outputs from o on
-unfoldable pub groupText : Group → ℕ → ℕ → List ℕ
-groupText g v o = each clauseText (cond (counted g) (totalizerClauses (openCount g) v o (atLeast g) (atMost g)) [])
+-- block k of a group, its variables from v on and the outputs from o on
+unfoldable pub groupBlockText : Group → ℕ → ℕ → ℕ → List ℕ
+groupBlockText g v o k = each clauseText (getD (totalizerBlocks (openCount g) v o (atLeast g) (atMost g)) k [])
 
 -- ---- a constraint
 
@@ -74,6 +81,10 @@ pub record Small (t : Node) : Type 0 where
   pub owns : Among (t .n) (t .a + t .b)
 
 -- ---- a model that may be listed
+
+-- block 0, or a line's
+abbrev pub Outer : Model → ℕ → Type 0
+Outer m b = (b ≡ 0) ⊎ (length (nodeBlocks m) < b)
 
 -- "A written block returns its length", a refused one none
 unfoldable pub blockLength : Model → ℕ → ℕ → ℕ

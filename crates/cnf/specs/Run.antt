@@ -16,19 +16,35 @@ runCount zero m b room = 0
 runCount (suc k) m b room =
     elim (eqb (blockRefusal m b room) 0) [ true ↦ suc (runCount k m (suc b) (room - length (blockText m b))) | false ↦ 0 ]
 
-unfoldable pub runLength : Model → ℕ → ℕ → ℕ
-runLength m b room = runCount (blockCount m + 1 - b) m b room
+-- ---- a run up to block `end`
 
-unfoldable pub runText : Model → ℕ → ℕ → List ℕ
-runText m b room = each (blockText m) (range b (runLength m b room))
+unfoldable pub lengthTo : Model → ℕ → ℕ → ℕ → ℕ
+lengthTo m b end room = runCount (end + 1 - b) m b room
+
+unfoldable pub textTo : Model → ℕ → ℕ → ℕ → List ℕ
+textTo m b end room = each (blockText m) (range b (lengthTo m b end room))
 
 -- refused as its first block would be
-unfoldable pub runOf : Model → ℕ → ℕ → Run
-runOf m b room = record { refusal = blockRefusal m b room; next = b + runLength m b room; length = length (runText m b room) }
+unfoldable pub runTo : Model → ℕ → ℕ → ℕ → Run
+runTo m b end room = record { refusal = blockRefusal m b room; next = b + lengthTo m b end room; length = length (textTo m b end room) }
 
 -- "bytes past the text are unchanged"
+unfoldable pub bufferTo : Model → ℕ → ℕ → List ℕ → List ℕ
+bufferTo m b end buf = textTo m b end (length buf) ++ drop (length (textTo m b end (length buf))) buf
+
+-- ---- a run to the last block
+
+abbrev pub runLength : Model → ℕ → ℕ → ℕ
+runLength m b room = lengthTo m b (blockCount m) room
+
+unfoldable pub runText : Model → ℕ → ℕ → List ℕ
+runText m b room = textTo m b (blockCount m) room
+
+unfoldable pub runOf : Model → ℕ → ℕ → Run
+runOf m b room = runTo m b (blockCount m) room
+
 unfoldable pub runBuffer : Model → ℕ → List ℕ → List ℕ
-runBuffer m b buf = runText m b (length buf) ++ drop (length (runText m b (length buf))) buf
+runBuffer m b buf = bufferTo m b (blockCount m) buf
 
 -- ---- runs one after the other, each from where the last stopped, in buffers of these lengths
 

@@ -4,12 +4,14 @@ mod totalizer;
 ghost use mathlib.Core.Path.{_≡_};
 ghost use mathlib.Core.List.{map};
 ghost use lib.Dec.{T, leb};
-ghost use Prim.Native.Nat.{_+_, _*_, _≤_};
-ghost use lib.ListN.{length, take};
+ghost use Prim.Native.Nat.{_+_, _*_, _≤_, _<_};
+ghost use lib.ListN.{length, getD, take};
 ghost use Rattle.model.specs.declared.Literal.the-variants.{Pos};
 ghost use Rattle.model.specs.Lists.{each, range};
 ghost use Rattle.model.specs.Limits.{limits};
-ghost use Rattle.model.specs.Cnf.{openCount, outputsOf, differenceCount, constraintClauses, blockCount};
+ghost use Rattle.model.specs.Cnf.{openCount, outputsOf, differenceCount, constraintClauses, nodeBlocks, blockCount};
+ghost use Rattle.encoding_laws.specs.Division.{nodesOf};
+ghost use Rattle.encoding_laws.proofs.Bounds.{mostBytes};
 ghost use Rattle.model.specs.Model.{constraintInRange};
 ghost use Rattle.model.specs.Propagate.{Settled};
 ghost use Rattle.model.proofs.Lists.{All};
@@ -19,8 +21,8 @@ ghost use Rattle.model.specs.Text.{clauseText, headerText, blockText, blockRefu
 ghost use Rattle.numbering.specs.Numbering.{firstVariables, numberingOf};
 ghost use Rattle.text.specs.Put.{Wrote};
 ghost use Rattle.terms.specs.Terms.{MembersBelow};
-ghost use Rattle.cnf.specs.Run.{runOf, runBuffer};
-ghost use Rattle.cnf.specs.Parts.{groupText, entrantText, constraintText, blockLength, Among};
+ghost use Rattle.cnf.specs.Run.{runTo, bufferTo, runOf, runBuffer};
+ghost use Rattle.cnf.specs.Parts.{groupBlockText, entrantText, constraintText, Outer, blockLength, Among};
 use model::Constraint;
 use model::Group;
 use model::Literal;
@@ -28,22 +30,46 @@ use model::Model;
 use model::Written;
 use numbering::Numbering;
 use terms::Member;
-use totalizer::put_totalizer;
+use totalizer::node_at;
+use totalizer::put_node;
+use totalizer::put_units;
+use totalizer::root;
 
 // ---- a group
 
-// The clauses of a group's totalizer, if it has one; its variables start at v and the outputs at o.
-fn put_group(buf: &mut [u8], at: usize, g: Group, v: u32, o: u32) -> usize
-    requires { ⌜ SettledAmong (limits .entrants) g ⌝ }
+// The group of a node's block b, by halving: `first` has the first block of each group, of which the first s count.
+fn group_of(first: &[u32; Model::GROUPS], s: usize, b: u32) -> usize
+    requires { ⌜ (1 ≤ s) × (s ≤ limits .groups) × (length (now first) ≡ limits .groups) × (getD (now first) 0 0 ≤ b) ⌝ }
+    ensures { λ r. ⌜ (r < s) × (getD (now (first .entry)) r 0 ≤ b) × (r + 1 < s → b < getD (now (first .entry)) (r + 1) 0) ⌝ }
+{
+    let mut low: usize = 0;
+    let mut high = s;
+    while low + 1 < high {
+        let middle = low + (high - low) / 2;
+        if first[middle] <= b {
+            low = middle;
+        } else {
+            high = middle;
+        }
+    }
+    low
+}
+
+// Block k of a group, from 0: the clauses of node k of its totalizer, and the units after the root's. Its variables start at v and the outputs at o.
+fn put_group_block(buf: &mut [u8], at: usize, g: Group, v: u32, o: u32, k: u32) -> usize
+    requires { ⌜ SettledAmong (limits .entrants) g × (k < nodesOf g) ⌝ }
     requires { ⌜ Among v (openCount g) × Among o (outputsOf g) ⌝ }
-    requires { ⌜ at + length (groupText g v o) ≤ length (now buf) ⌝ }
-    ensures { λ r. ⌜ Wrote (groupText g v o) at (now (buf .entry)) (now (buf .exit)) r ⌝ }
+    requires { ⌜ at + length (groupBlockText g v o k) ≤ length (now buf) ⌝ }
+    ensures { λ r. ⌜ Wrote (groupBlockText g v o k) at (now (buf .entry)) (now (buf .exit)) r ⌝ }
 {
     let t = numbering::totalizer_of(g);
-    if !t.exists {
-        return at;
+    let x = put_node(buf, at, node_at(t.size, v, o, k));
+    if k + 2 < t.size {
+        return x;
     }
-    put_totalizer(buf, at, t.size, v, o, t.low, t.high)
+    let n = root(t.size, v, o);
+    let y = put_units(buf, x, true, n, 0, t.low);
+    put_units(buf, y, false, n, t.high, t.size - t.high)
 }
 
 // ---- a constraint
@@ -157,58 +183,127 @@ fn put_header(buf: &mut [u8], at: usize, m: Model, v: Numbering) -> usize
     text::put_bytes(buf, w, b"\n")
 }
 
-// Block b of a settled model.
-fn put_block(buf: &mut [u8], at: usize, m: Model, v: Numbering, b: u32) -> usize
-    requires { ⌜ Settled m × (v ≡ numberingOf m) ⌝ }
-    requires { ⌜ b ≤ blockCount m ⌝ }
+// Block 0, or a line's: `lines` is the first line's.
+fn put_outer_block(buf: &mut [u8], at: usize, m: Model, v: Numbering, lines: u32, b: u32) -> usize
+    requires { ⌜ Settled m × (v ≡ numberingOf m) × (lines ≡ 1 + length (nodeBlocks m)) ⌝ }
+    requires { ⌜ (b ≤ blockCount m) × Outer m b ⌝ }
     requires { ⌜ at + length (blockText m b) ≤ length (now buf) ⌝ }
     ensures { λ r. ⌜ Wrote (blockText m b) at (now (buf .entry)) (now (buf .exit)) r ⌝ }
 {
     if b == 0 {
         return put_header(buf, at, m, v);
     }
-    let i = b as usize - 1;
-    let s = m.s as usize;
-    if b <= m.s {
-        let g = m.groups[i];
-        return put_group(buf, at, g, v.first[i], v.outputs[i]);
-    }
+    let j = (b - lines) as usize;
     let groups = m.groups;
     let first = v.first;
-    let j = i - s;
     let c = m.constraints[j];
-    put_constraint_block(buf, at, groups, s, first, c, m.n, v.differences[j])
+    put_constraint_block(
+        buf,
+        at,
+        groups,
+        m.s as usize,
+        first,
+        c,
+        m.n,
+        v.differences[j],
+    )
 }
 
-// ---- the entry
+// ---- what fits in `left` bytes: it is measured only where there may be no room
 
-// Whether block b of a settled model fits in `left` bytes. It is measured only where some block would not.
-fn fits(m: Model, v: Numbering, b: u32, left: usize) -> bool
-    requires { ⌜ Settled m × (v ≡ numberingOf m) ⌝ }
-    requires { ⌜ b ≤ blockCount m ⌝ }
-    ensures { λ r. ⌜ r ≡ leb (length (blockText m b)) left ⌝ }
+// A clause of three literals of five digits, each with its sign and its space, then `0` and byte 10.
+const CLAUSE_BYTES: usize = 23;
+
+// Block k of a group. A tree of m leaves has no block of more than (m + 2)² / 2 + m clauses.
+fn group_block_fits(g: Group, v: u32, o: u32, k: u32, left: usize) -> bool
+    requires { ⌜ SettledAmong (limits .entrants) g × (k < nodesOf g) ⌝ }
+    requires { ⌜ Among v (openCount g) × Among o (outputsOf g) ⌝ }
+    requires { ⌜ length (groupBlockText g v o k) ≤ mostBytes (openCount g) ⌝ }
+    ensures { λ r. ⌜ r ≡ leb (length (groupBlockText g v o k)) left ⌝ }
 {
-    if left < Model::BLOCK_BYTES {
+    let t = numbering::totalizer_of(g);
+    let m = t.size as usize;
+    let most = CLAUSE_BYTES * ((m + 2) * (m + 2) / 2 + m);
+    if left < most {
         let mut scratch = [0u8; Model::BLOCK_BYTES];
-        let k = put_block(&mut scratch, 0, m, v, b);
-        return k <= left;
+        let n = put_group_block(&mut scratch, 0, g, v, o, k);
+        return n <= left;
     }
     true
 }
 
-// Block b of a settled model, where it fits.
-fn write_settled(m: Model, b: u32, buf: &mut [u8]) -> Written
-    requires { ⌜ Settled m × (b ≤ blockCount m) ⌝ }
-    ensures { λ r. ⌜ r ≡ writtenBlock m b (length (now (buf .entry))) ⌝ }
-    ensures { λ r. ⌜ now (buf .exit) ≡ blockBuffer m b (now (buf .entry)) ⌝ }
+// Block 0, or a line's.
+fn outer_block_fits(m: Model, v: Numbering, lines: u32, b: u32, left: usize) -> bool
+    requires { ⌜ Settled m × (v ≡ numberingOf m) × (lines ≡ 1 + length (nodeBlocks m)) ⌝ }
+    requires { ⌜ (b ≤ blockCount m) × Outer m b ⌝ }
+    ensures { λ r. ⌜ r ≡ leb (length (blockText m b)) left ⌝ }
+{
+    if left < Model::BLOCK_BYTES {
+        let mut scratch = [0u8; Model::BLOCK_BYTES];
+        let n = put_outer_block(&mut scratch, 0, m, v, lines, b);
+        return n <= left;
+    }
+    true
+}
+
+// ---- a run of blocks
+
+// A run of blocks: 0, the first block that is not written and the length of the text; or a refusal, the block asked for and 0.
+pub struct Run {
+    pub refusal: u32,
+    pub next: u32,
+    pub length: usize,
+}
+
+// The blocks of a settled model from b to `end`, while each fits in what is left.
+fn write_run(m: Model, b: u32, end: u32, buf: &mut [u8]) -> Run
+    requires { ⌜ Settled m × (b ≤ end) × (end ≤ blockCount m) ⌝ }
+    ensures { λ r. ⌜ r ≡ runTo m b end (length (now (buf .entry))) ⌝ }
+    ensures { λ r. ⌜ now (buf .exit) ≡ bufferTo m b end (now (buf .entry)) ⌝ }
 {
     let v = numbering::of_model(m);
-    if !fits(m, v, b, buf.len()) {
-        return Written::Refused(24);
+    let groups = m.groups;
+    let d = blocks::of_groups(groups, m.s);
+    let first = d.first;
+    let mut at: usize = 0;
+    let mut x = b;
+    let mut stop = end + 1;
+    while x < stop {
+        let left = buf.len() - at;
+        if 0 < x && x < d.lines {
+            let i = group_of(&first, m.s as usize, x);
+            let g = groups[i];
+            let k = x - first[i];
+            if group_block_fits(g, v.first[i], v.outputs[i], k, left) {
+                at = put_group_block(buf, at, g, v.first[i], v.outputs[i], k);
+                x += 1;
+            } else {
+                stop = x;
+            }
+        } else {
+            if outer_block_fits(m, v, d.lines, x, left) {
+                at = put_outer_block(buf, at, m, v, d.lines, x);
+                x += 1;
+            } else {
+                stop = x;
+            }
+        }
     }
-    let n = put_block(buf, 0, m, v, b);
-    Written::Bytes(n)
+    if x == b {
+        return Run {
+            refusal: 24,
+            next: b,
+            length: 0,
+        };
+    }
+    Run {
+        refusal: 0,
+        next: x,
+        length: at,
+    }
 }
+
+// ---- the entries
 
 // Block b in buf, from its start: refusals 20, 22, 23 and 24 in this order. 29 cannot occur after 22. A written block has at each node, p and q what the printed steps leave there.
 pub fn write_block(m: Model, b: u32, buf: &mut [u8]) -> Written
@@ -224,59 +319,18 @@ pub fn write_block(m: Model, b: u32, buf: &mut [u8]) -> Written
     let groups = m.groups;
     let constraints = m.constraints;
     model::whole(groups, constraints);
-    write_settled(m, b, buf)
-}
-
-// ---- many blocks at once
-
-// A run of blocks: 0, the first block that is not written and the length of the text; or a refusal, the block asked for and 0.
-pub struct Run {
-    pub refusal: u32,
-    pub next: u32,
-    pub length: usize,
-}
-
-// The blocks of a settled model from b on, while each fits in what is left.
-fn write_run(m: Model, b: u32, buf: &mut [u8]) -> Run
-    requires { ⌜ Settled m × (b ≤ blockCount m) ⌝ }
-    ensures { λ r. ⌜ r ≡ runOf m b (length (now (buf .entry))) ⌝ }
-    ensures { λ r. ⌜ now (buf .exit) ≡ runBuffer m b (now (buf .entry)) ⌝ }
-{
-    let v = numbering::of_model(m);
-    let last = blocks::block_count(m);
-    let mut at: usize = 0;
-    let mut x = b;
-    while x <= last {
-        let left = buf.len() - at;
-        if !fits(m, v, x, left) {
-            if x == b {
-                return Run {
-                    refusal: 24,
-                    next: b,
-                    length: 0,
-                };
-            }
-            return Run {
-                refusal: 0,
-                next: x,
-                length: at,
-            };
-        }
-        at = put_block(buf, at, m, v, x);
-        x += 1;
+    let r = write_run(m, b, b, buf);
+    if r.refusal != 0 {
+        return Written::Refused(r.refusal);
     }
-    Run {
-        refusal: 0,
-        next: x,
-        length: at,
-    }
+    Written::Bytes(r.length)
 }
 
-// The same for every model, refused as `write_block` refuses block b. 20, 22 and 23 are judged once for the whole run.
+// Blocks from b on, while each fits; refused as `write_block` refuses block b. 20, 22 and 23 are judged once for the whole run.
 pub fn write_blocks(m: Model, b: u32, buf: &mut [u8]) -> Run
     ensures { λ r. ⌜ r ≡ runOf m b (length (now (buf .entry))) ⌝ }
     ensures { λ r. ⌜ now (buf .exit) ≡ runBuffer m b (now (buf .entry)) ⌝ }
-    ensures { λ r. ⌜ r .length ≤ (limits .groups + limits .constraints + 1) * limits .block ⌝ }
+    ensures { λ r. ⌜ r .length ≤ (limits .groups * limits .word + limits .constraints + 1) * limits .block ⌝ }
 {
     let refusal = blocks::judged(m, b);
     if refusal != 0 {
@@ -289,5 +343,6 @@ pub fn write_blocks(m: Model, b: u32, buf: &mut [u8]) -> Run
     let groups = m.groups;
     let constraints = m.constraints;
     model::whole(groups, constraints);
-    write_run(m, b, buf)
+    let d = blocks::of_groups(groups, m.s);
+    write_run(m, b, d.lines - 1 + m.c, buf)
 }

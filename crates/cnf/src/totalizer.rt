@@ -1,14 +1,14 @@
-// A totalizer's clauses: the tree's, node after node, then the units that set the limits.
+// A totalizer's clauses: those of each node of the tree, and the units that set the limits.
 ghost use mathlib.Core.Path.{_≡_};
 ghost use mathlib.Core.List.{[], _∷_};
 ghost use Prim.Native.Nat.{_+_, _≤_};
 ghost use lib.ListN.{length};
 ghost use Rattle.model.specs.Lists.{each, range};
 ghost use Rattle.model.specs.Limits.{limits};
-ghost use Rattle.model.specs.Totalizer.{formed, output, outputTerm, nodeTerms, shape, rootOutput, totalizerClauses, treeOutputCount};
+ghost use Rattle.model.specs.Totalizer.{formed, output, outputTerm, nodeTerms, shape, rootOutput, treeOutputCount};
 ghost use Rattle.model.specs.Text.{clauseText};
 ghost use Rattle.text.specs.Put.{Wrote, keptText};
-ghost use Rattle.cnf.specs.Parts.{termsOf, rowText, nodeText, treeText, signed, unitText, Among, Small};
+ghost use Rattle.cnf.specs.Parts.{termsOf, rowText, nodeText, nodeAt, signed, unitText, Among, Small};
 use model::Formed;
 use model::Literal;
 use model::Node;
@@ -111,7 +111,7 @@ fn put_row(buf: &mut [u8], at: usize, t: Node, p: u32) -> usize
 }
 
 // The node's clauses, for p = 0..a.
-fn put_node(buf: &mut [u8], at: usize, t: Node) -> usize
+pub(crate) fn put_node(buf: &mut [u8], at: usize, t: Node) -> usize
     requires { ⌜ Small t ⌝ }
     requires { ⌜ at + length (nodeText t) ≤ length (now buf) ⌝ }
     ensures { λ r. ⌜ Wrote (nodeText t) at (now (buf .entry)) (now (buf .exit)) r ⌝ }
@@ -129,7 +129,7 @@ fn put_node(buf: &mut [u8], at: usize, t: Node) -> usize
 // ---- the tree
 
 // The first output of a tree's root, where its leaves start at v and its outputs at o.
-fn root(m: u32, v: u32, o: u32) -> u32
+pub(crate) fn root(m: u32, v: u32, o: u32) -> u32
     requires { ⌜ (m ≤ limits .word) × Among o (treeOutputCount m) ⌝ }
     ensures { λ r. ⌜ r ≡ rootOutput (shape m) v o ⌝ }
 {
@@ -139,26 +139,25 @@ fn root(m: u32, v: u32, o: u32) -> u32
     o + numbering::output_count(m) - m
 }
 
-// The tree of size m: left half, right half, then the node itself.
-fn put_tree(buf: &mut [u8], at: usize, m: u32, v: u32, o: u32) -> usize
-    requires { ⌜ (1 ≤ m) × (m ≤ limits .word) × Among v m × Among o (treeOutputCount m) ⌝ }
-    requires { ⌜ at + length (treeText m v o) ≤ length (now buf) ⌝ }
-    ensures { λ r. ⌜ Wrote (treeText m v o) at (now (buf .entry)) (now (buf .exit)) r ⌝ }
+// Node k of the tree of size m, from 0 in the order left half, right half, then the node itself; its leaves start at v and its outputs at o.
+pub(crate) fn node_at(m: u32, v: u32, o: u32, k: u32) -> Node
+    requires { ⌜ (k + 2 ≤ m) × (m ≤ limits .word) × Among v m × Among o (treeOutputCount m) ⌝ }
+    ensures { λ r. ⌜ (r ≡ nodeAt m v o k) × Small r ⌝ }
 {
-    if m < 2 {
-        return at;
-    }
     let a = m / 2;
     let b = m - a;
     let w = v + a;
     let p = o + numbering::output_count(a);
+    if k + 1 < a {
+        return node_at(a, v, o, k);
+    }
+    if k + 2 < m {
+        return node_at(b, w, p, k + 1 - a);
+    }
     let n = p + numbering::output_count(b);
     let c = root(a, v, o);
     let d = root(b, w, p);
-    let x = put_tree(buf, at, a, v, o);
-    let y = put_tree(buf, x, b, w, p);
-    let t = Node { c, a, d, b, n };
-    put_node(buf, y, t)
+    Node { c, a, d, b, n }
 }
 
 // ---- the units
@@ -177,7 +176,14 @@ fn put_unit(buf: &mut [u8], at: usize, positive: bool, v: u32) -> usize
 }
 
 // The unit clauses of the outputs a, a + 1, .. (k of them) that are numbered from first on.
-fn put_units(buf: &mut [u8], at: usize, positive: bool, first: u32, a: u32, k: u32) -> usize
+pub(crate) fn put_units(
+    buf: &mut [u8],
+    at: usize,
+    positive: bool,
+    first: u32,
+    a: u32,
+    k: u32,
+) -> usize
     requires { ⌜ Among first (a + k) ⌝ }
     requires { ⌜ at + length (each (unitText positive first) (range a k)) ≤ length (now buf) ⌝ }
     ensures { λ r. ⌜ Wrote (each (unitText positive first) (range a k)) at (now (buf .entry)) (now (buf .exit)) r ⌝ }
@@ -189,25 +195,4 @@ fn put_units(buf: &mut [u8], at: usize, positive: bool, first: u32, a: u32, k: u
         i += 1;
     }
     n
-}
-
-// A totalizer: the tree, then its units.
-pub(crate) fn put_totalizer(
-    buf: &mut [u8],
-    at: usize,
-    m: u32,
-    v: u32,
-    o: u32,
-    low: u32,
-    high: u32,
-) -> usize
-    requires { ⌜ (1 ≤ m) × (m ≤ limits .word) × Among v m × Among o (treeOutputCount m) ⌝ }
-    requires { ⌜ (low ≤ m) × (high ≤ m) ⌝ }
-    requires { ⌜ at + length (each clauseText (totalizerClauses m v o low high)) ≤ length (now buf) ⌝ }
-    ensures { λ r. ⌜ Wrote (each clauseText (totalizerClauses m v o low high)) at (now (buf .entry)) (now (buf .exit)) r ⌝ }
-{
-    let first = root(m, v, o);
-    let x = put_tree(buf, at, m, v, o);
-    let y = put_units(buf, x, true, first, 0, low);
-    put_units(buf, y, false, first, high, m - high)
 }

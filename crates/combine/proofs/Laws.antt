@@ -158,6 +158,7 @@ module _ (a b : Model) (v : Whole a) (w : Whole b) (f : Fitting a b) where
         entrants = ra .entrants;
         some-group = ra .some-group;
         groupCount = ra .groupCount;
+        groupLimit = ra .groupLimit;
         constraintCount = f .lines;
         groups = groups-in-range;
         constraints =

@@ -26,7 +26,7 @@ use Rattle.model.proofs.Lists.{T-true, T-false, T-ext, true-T, and-right, and-b
 use Rattle.model.proofs.Refusals.{settled-rest}
 use Rattle.propagation_laws.proofs.Propagation.{Propagation, Reordered}
 use Rattle.propagation_laws.proofs.Sheets.{Accurate, accurate, order-accepted, sheet-propagation}
-use Rattle.encoding_laws.proofs.Groups.{clauses-length}
+use Rattle.encoding_laws.proofs.Blocks.{clauses-length}
 use Rattle.encoding_laws.proofs.Ranges.{In, variables-in}
 use Rattle.encoding_laws.proofs.Bounds.{variables-bound, block-bound}
 use Rattle.encoding_laws.proofs.Nonempty.{no-empty-clause}
@@ -117,7 +117,7 @@ listed q s = record {
       );
   header = header-reads q;
   reads = listing-reads q s;
-  count = clauses-length q (s .sized);
+  count = clauses-length q s;
   few = variables-bound q s;
   variables = between-all (variableCount q) (clauses q) (variables-in q s);
 }

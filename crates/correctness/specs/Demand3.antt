@@ -42,7 +42,7 @@ pub record Settling (m : Model) (a : Propagated) : Type 0 where
 
 -- ---- the listing of the settled model q
 pub record Listing (q : Model) : Type 0 where
-  -- every block is written into a buffer of 32,768 bytes
+  -- every block is written into a buffer of 65,536 bytes
   pub written : (k : ℕ) → k ≤ blockCount q → blockRefusal q k (limits .block) ≡ 0
   -- block 0 says V and C of the formulas
   pub header : readDimacs (blockText q 0) ≡ some (record { variables = variableCount q; clauseCount = clauseCount q; clauses = [] })
@@ -50,7 +50,7 @@ pub record Listing (q : Model) : Type 0 where
   pub reads : readDimacs (listing q) ≡ some (record { variables = variableCount q; clauseCount = clauseCount q; clauses = clauses q })
   -- exactly C of them
   pub count : length (clauses q) ≡ clauseCount q
-  -- "V at most 57,344"
+  -- "V at most 59,392"
   pub few : variableCount q ≤ limits .variables
   -- no variable below 1 or above V
   pub variables : T (every (every (λ l. between 1 (variableCount q) (variable l))) (clauses q))

@@ -24,7 +24,7 @@ use Rattle.model.proofs.Codes.{member-bound, clause-bound, members-below}
 use Rattle.model.proofs.Lists.{All, all-getD, all-imp, all-place, total-le, total-append, every-getD}
 use Rattle.propagation_laws.proofs.Ranges.{in-range, constraint-code, groups-in, two-groups}
 use Rattle.encoding_laws.proofs.Fixpoint.{SettledAmong, table-settled}
-use Rattle.encoding_laws.proofs.Bounds.{open-few}
+use Rattle.encoding_laws.proofs.Whole.{open-few}
 use Rattle.numbering.specs.Numbering.{firstVariables}
 use Rattle.numbering.proofs.Arrays.{next-take}
 use Rattle.terms.specs.declared.Member.{Member}

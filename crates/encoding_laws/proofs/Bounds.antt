@@ -1,4 +1,4 @@
--- "32,768 bytes hold each block", "V at most 57,344": each bound first as a formula of n, s, c and the tree's own T and A, the numbers of the paper last.
+-- "65,536 bytes hold each block; V is at most 59,392": each bound first as a formula of n, s, c and the tree's own T and A, the numbers of the paper last.
 -- Assumes nothing.
 use mathlib.Core.Path.{_≡_, refl, sym, ap, ap₂, _∙_, subst}
 use mathlib.Core.Bool.{Bool, true, false, cond}
@@ -18,24 +18,28 @@ use Rattle.model.specs.declared.Group.{Group}
 use Rattle.model.specs.declared.Constraint.{Constraint}
 use Rattle.model.specs.declared.Model.{Model}
 use Rattle.model.specs.Lists.{any, each, total, range}
-use Rattle.model.specs.Limits.{limits}
+use Rattle.model.specs.Limits.{limits, groupsFor}
 use Rattle.model.specs.Clauses.{shortClauses, unionClauses, memberClauses}
 use Rattle.model.specs.Model.{zeroGroup, zeroConstraint, groupAt, tableOf, constraintsOf, constraintInRange}
 use Rattle.model.specs.Difference.{isApart}
 use Rattle.model.specs.Propagate.{Settled}
-use Rattle.model.specs.Totalizer.{holds, literals, keep, formed, nodeTerms, putIn, dropped, rowClauses, nodeClauses, Shape, shape, rootOutput, nodes, treeClauses, unit, unitClauses, totalizerClauses, clauseCountIn, treeClauseCount, outputCountIn, treeOutputCount}
-use Rattle.model.specs.Cnf.{openOf, openCount, atLeast, atMost, counted, outputsOf, firstVariable, firstOutput, tableVariables, isOpenDifference, differenceCount, firstDifference, variableCount, groupClauses, difference, constraintTerm, termOf, clausesAt, lastClause, constraintClauses, blockClauses, groupClauseCount, clauseCount}
+use Rattle.model.specs.Totalizer.{holds, literals, keep, formed, nodeTerms, putIn, dropped, rowClauses, nodeClauses, Shape, leaf, node, shape, leaves, outputs, rootOutput, nodeOver, nodes, unit, unitClauses, treeBlocks, totalizerBlocks, clauseCountIn, treeClauseCount, outputCountIn, treeOutputCount}
+use Rattle.model.specs.Cnf.{openCount, atLeast, atMost, counted, outputsOf, firstVariable, firstOutput, tableVariables, isOpenDifference, differenceCount, firstDifference, variableCount, difference, constraintTerm, termOf, clausesAt, lastClause, groupBlocks, constraintClauses, lineClauses, nodeBlocks, blockClauses, groupClauseCount, clauseCount}
 use Rattle.model.specs.Text.{decimal, literalText, clauseText, headerText, blockText}
 use Rattle.model.specs.Assignment.{variable}
-use Rattle.model.proofs.Words.{size-le}
-use Rattle.model.proofs.Lists.{length-each, each-append, each-each, total-map, total-const, total-le, total-mono, each-all, All, all-both, all-imp, all-map-iff, all-of, all-each, all-place, all-getD, all-zip, every-all, range-length}
-use Rattle.encoding_laws.proofs.Counts.{clause-count-step, output-count-step, group-length}
-use Rattle.encoding_laws.proofs.Groups.{table-length, constraints-length, constraint-count, group-block, constraint-block}
+use Rattle.model.proofs.Lists.{length-each, each-append, each-each, total-map, total-const, total-le, total-mono, each-all, All, all-both, all-imp, all-map-iff, all-of, all-each, all-place, all-getD, all-zip, every-all, range-all, range-length}
+use Rattle.encoding_laws.proofs.Counts.{node-length, units-length, clause-count-step, output-count-step}
+use Rattle.encoding_laws.proofs.Groups.{table-length, constraints-length, constraint-count}
+use Rattle.encoding_laws.proofs.Blocks.{group-joined, line-block, node-block}
+use Rattle.encoding_laws.proofs.Steps.{tree-nodes}
+use Rattle.model.proofs.Width.{groups-narrow, groups-wide}
 use Rattle.model.proofs.Codes.{by-code, by-seven, is-code, count-in}
+use Rattle.encoding_laws.specs.Division.{treeClauses, totalizerClauses, groupClauses}
+use Rattle.encoding_laws.specs.Steps.{NodeOf}
 use Rattle.propagation_laws.proofs.Ranges.{in-range, constraint-code}
 use Rattle.encoding_laws.proofs.Fixpoint.{SettledAmong, table-settled}
 use Rattle.encoding_laws.proofs.Differences.{count-le}
-use Rattle.encoding_laws.proofs.Whole.{limits-of, open-lt}
+use Rattle.encoding_laws.proofs.Whole.{limits-of, open-few}
 use Rattle.encoding_laws.proofs.Ranges.{In, VariablesIn, constraint-in, group-variables, constraint-variables}
 use Rattle.encoding_laws.proofs.Decimal.{decimal-bound}
 
@@ -102,16 +106,12 @@ clauses-mono = up-to treeClauseCount (by-halves (λ m. treeClauseCount m ≤ tre
 -- ---- a group among n entrants
 
 module _ (n : ℕ) (r : Group) (s : SettledAmong n r) where
-  pub open-few : openCount r ≤ n
-  unfolding openCount
-  open-few = size-le n (openOf r) (open-lt n r s)
-
   outputs-few : outputsOf r ≤ treeOutputCount n
   unfolding outputsOf
   outputs-few = go (counted r)
     where
       go : (b : Bool) → cond b (treeOutputCount (openCount r)) 0 ≤ treeOutputCount n
-      go true = outputs-mono (openCount r) n open-few
+      go true = outputs-mono (openCount r) n (open-few n r s)
       go false = omega arith
 
   clause-count-few : groupClauseCount r ≤ treeClauseCount n + n
@@ -121,7 +121,7 @@ module _ (n : ℕ) (r : Group) (s : SettledAmong n r) where
       go : (b : Bool) → cond b (treeClauseCount (openCount r) + atLeast r + (openCount r - atMost r)) 0 ≤ treeClauseCount n + n
       go true =
           let l = limits-of r (s .group) in
-          omega (arith, clauses-mono (openCount r) n open-few, open-few, l .low-high, l .high-open)
+          omega (arith, clauses-mono (openCount r) n (open-few n r s), open-few n r s, l .low-high, l .high-open)
       go false = omega arith
 
 -- V is at most s·(n + A(n)) + c·n
@@ -138,6 +138,72 @@ variables-formula m q =
     let f : length (constraintsOf m) * n ≡ m .c * n = ap (λ (k : ℕ). k * n) (constraints-length m (q .sized)) in
     omega (arith, x, y, e, z, f)
 
+-- a block of a totalizer's node, by its clauses: of a tree of at most n leaves, with u units
+abbrev Sizes : ℕ → ℕ → List (List Literal) → Type 0
+Sizes n u b = 2 * length b + 4 ≤ (n + 2) * (n + 2) + 2 * u
+
+-- four times a product is no more than the square of the sum
+four : (x y : ℕ) → 4 * (x * y) ≤ (x + y) * (x + y)
+four x y = go (decLe x y)
+  where
+    more : (x d : ℕ) → 4 * (x * (x + d)) ≤ (x + (x + d)) * (x + (x + d))
+    more x d = omega arith
+
+    go : Dec (x ≤ y) → 4 * (x * y) ≤ (x + y) * (x + y)
+    go (yes h) = let e : x + (y - x) ≡ y = omega arith in subst (λ (k : ℕ). 4 * (x * k) ≤ (x + k) * (x + k)) e (more x (y - x))
+    go (no h) =
+        let e : y + (x - y) ≡ x = omega arith in
+        let q = subst (λ (k : ℕ). 4 * (y * k) ≤ (y + k) * (y + k)) e (more y (x - y)) in
+        omega (arith, q)
+
+node-size : (n : ℕ) (t : Node) → NodeOf n t → Sizes n 0 (nodeClauses t)
+node-size n t h =
+    let x : ℕ = suc (t .a) in
+    let y : ℕ = suc (t .b) in
+    let square : (x + y) * (x + y) ≤ (n + 2) * (n + 2) = mul-le-mul (omega (arith, h .most)) (omega (arith, h .most)) in
+    omega (arith, node-length t, four x y, square)
+
+tree-sizes : (n : ℕ) (s : Shape) (v o : ℕ) (units : List (List Literal)) → All (NodeOf n) (nodes s v o) → All (Sizes n (length units)) (treeBlocks s v o units)
+unfolding nodes treeBlocks
+tree-sizes n leaf v o units h = tt
+tree-sizes n (node l r) v o units h =
+    let ns = nodes l v o ++ nodes r (v + leaves l) (o + outputs l) in
+    let own = nodeClauses (nodeOver l r v o) in
+    let k = all-both (NodeOf n) ns (nodeOver l r v o ∷ []) .0 h in
+    let root = node-size n (nodeOver l r v o) (k .1 .0) in
+    all-both (Sizes n (length units)) (map nodeClauses ns) ((own ++ units) ∷ []) .1 (
+      all-map-iff (Sizes n (length units)) nodeClauses ns .1
+          (all-imp (NodeOf n) (λ t. Sizes n (length units) (nodeClauses t)) (λ t q. let z = node-size n t q in omega (arith, z)) ns (k .0)),
+      (omega (arith, length-append own units, root), tt),
+    )
+
+-- a group's: its units are no more than its open entrants
+group-sizes : (n : ℕ) (t : List Group) (g : ℕ) → SettledAmong n (groupAt t g) → All (Sizes (openCount (groupAt t g)) (openCount (groupAt t g))) (groupBlocks t g)
+unfolding groupBlocks totalizerBlocks
+group-sizes n t g s = go (counted r)
+  where
+    r : Group
+    r = groupAt t g
+
+    k : ℕ
+    k = openCount r
+
+    v : ℕ
+    v = firstVariable t g
+
+    o : ℕ
+    o = firstOutput t g
+
+    us : List (List Literal)
+    us = unitClauses (rootOutput (shape k) v o) k (atLeast r) (atMost r)
+
+    go : (b : Bool) → All (Sizes k k) (cond b (treeBlocks (shape k) v o us) [])
+    go true =
+        let l = limits-of r (s .group) in
+        let u : length us ≤ k = omega (arith, units-length (rootOutput (shape k) v o) k (atLeast r) (atMost r), l .low-high, l .high-open) in
+        all-imp (Sizes k (length us)) (Sizes k k) (λ b q. omega arith) (treeBlocks (shape k) v o us) (tree-sizes k (shape k) v o us (tree-nodes k v o))
+    go false = tt
+
 -- ---- the numbers, at the largest n, s and c
 
 -- digits of a variable; bytes of a literal with its sign and its space, of a clause of three literals, and of an entrant's clauses of the longest code
@@ -153,37 +219,56 @@ clauseBytes k = literalBytes * k + 2
 abbrev entrantBytes : ℕ
 entrantBytes = clauseBytes (limits .members) + (limits .members - 1) * clauseBytes 2
 
+-- no block of a tree of m leaves has more bytes
+unfoldable pub mostBytes : ℕ → ℕ
+mostBytes m = clauseBytes 3 * ((m + 2) * (m + 2) / 2 + m)
+
 few-digits : limits .variables < 10 ^ digitCount
 few-digits = omega arith
 
 module _ (n : ℕ) (few : n ≤ limits .entrants) where
-  most-variables : (s c : ℕ) → s ≤ limits .groups → c ≤ limits .constraints → s * (n + treeOutputCount n) + c * n ≤ limits .variables
-  most-variables s c h k =
-      let a : s * (n + treeOutputCount n) ≤ limits .groups * (limits .entrants + treeOutputCount (limits .entrants)) =
-      mul-le-mul h (omega (arith, outputs-mono n (limits .entrants) few)) in
-      let b : c * n ≤ limits .constraints * limits .entrants = mul-le-mul k few in
-      omega (arith, a, b, most)
+  -- the corners: 256 groups of 32 entrants, and 96 of 64
+  most-variables : (s c : ℕ) → s ≤ groupsFor n → c ≤ limits .constraints → s * (n + treeOutputCount n) + c * n ≤ limits .variables
+  most-variables s c h k = go (decLe n (limits .narrow))
     where
-      most : limits .groups * (limits .entrants + treeOutputCount (limits .entrants)) + limits .constraints * limits .entrants ≤ limits .variables
-      most = unfold treeOutputCount outputCountIn in omega arith
+      corner : (n₁ s₁ : ℕ) → n ≤ n₁ → s ≤ s₁ → s₁ * (n₁ + treeOutputCount n₁) + limits .constraints * n₁ ≤ limits .variables
+          → s * (n + treeOutputCount n) + c * n ≤ limits .variables
+      corner n₁ s₁ l r most =
+          let a : s * (n + treeOutputCount n) ≤ s₁ * (n₁ + treeOutputCount n₁) = mul-le-mul r (omega (arith, outputs-mono n n₁ l)) in
+          let b : c * n ≤ limits .constraints * n₁ = mul-le-mul k l in
+          omega (arith, a, b, most)
 
-  most-group-bytes : (treeClauseCount n + n) * clauseBytes 3 ≤ limits .block
-  most-group-bytes =
-      le-trans (mul-le-mul {n₂ = treeClauseCount (limits .entrants) + limits .entrants} {m₂ = clauseBytes 3} (omega (arith, clauses-mono n (limits .entrants) few)) (le-refl (clauseBytes 3)))
-      (unfold treeClauseCount clauseCountIn in omega arith)
+      narrow : limits .groups * (limits .narrow + treeOutputCount (limits .narrow)) + limits .constraints * limits .narrow ≤ limits .variables
+      narrow = unfold treeOutputCount outputCountIn in omega arith
+
+      wide : limits .wide * (limits .entrants + treeOutputCount (limits .entrants)) + limits .constraints * limits .entrants ≤ limits .variables
+      wide = unfold treeOutputCount outputCountIn in omega arith
+
+      go : Dec (n ≤ limits .narrow) → s * (n + treeOutputCount n) + c * n ≤ limits .variables
+      go (yes l) = corner (limits .narrow) (limits .groups) l (subst (λ (g : ℕ). s ≤ g) (groups-narrow n l) h) narrow
+      go (no l) = corner (limits .entrants) (limits .wide) few (subst (λ (g : ℕ). s ≤ g) (groups-wide n (omega arith)) h) wide
+
+  pub most-bytes-fit : mostBytes n ≤ limits .block
+  unfolding mostBytes
+  most-bytes-fit =
+      let square : (n + 2) * (n + 2) ≤ (limits .entrants + 2) * (limits .entrants + 2) =
+      mul-le-mul {n₂ = limits .entrants + 2} {m₂ = limits .entrants + 2} (omega arith) (omega arith) in
+      omega (arith, square)
 
   most-constraint-bytes : n * entrantBytes + clauseBytes n ≤ limits .block
   most-constraint-bytes = omega arith
 
-  -- a block has no more clauses than bytes
+  -- a totalizer has no more clauses than a block may have bytes
   pub group-clauses-bound : (r : Group) → SettledAmong n r → groupClauseCount r ≤ limits .block
-  group-clauses-bound r s = let x = clause-count-few n r s in omega (arith, most-group-bytes)
+  group-clauses-bound r s =
+      let most : treeClauseCount (limits .entrants) + limits .entrants ≤ limits .block = unfold treeClauseCount clauseCountIn in omega arith in
+      omega (arith, clause-count-few n r s, clauses-mono n (limits .entrants) few, most)
 
--- "V at most 57,344"
+-- "V is at most 59,392"
 pub variables-bound : (m : Model) → Settled m → variableCount m ≤ limits .variables
 variables-bound m q =
     let r = in-range m (q .in-range) in
-    le-trans (variables-formula m q) (most-variables (m .n) (r .entrants) (m .s) (m .c) (r .groupCount) (r .constraintCount))
+    le-trans (variables-formula m q) (most-variables (m .n) (r .entrants) (m .s) (m .c) (r .groupLimit) (r .constraintCount))
 
 -- ---- text, of clauses whose variables are short
 
@@ -202,7 +287,11 @@ clause-bytes c h =
     let x = total-le (λ l. length (literalText l)) literalBytes c (all-imp Short (λ l. length (literalText l) ≤ literalBytes) literal-bytes c h) in
     omega (arith, length-append (each literalText c) (48 ∷ 10 ∷ []), e, x)
 
--- ---- a group's block: clauses of at most three literals
+-- a block within its bytes
+abbrev Fits : List (List Literal) → Type 0
+Fits b = length (each clauseText b) ≤ limits .block
+
+-- ---- a group's blocks: clauses of at most three literals
 
 abbrev Three : List Literal → Type 0
 Three c = length c ≤ 3
@@ -384,14 +473,38 @@ module _ (m : Model) (q : Settled m) where
       all-imp (All (In 1 (suc (variableCount m)))) (All Short)
       (λ c k. all-imp (In 1 (suc (variableCount m))) Short (λ l p. let u = p .1 in omega (arith, variables-bound m q, few-digits)) c k) cs h
 
-  group-bytes : (g : ℕ) → 1 ≤ g → g ≤ m .s → length (each clauseText (groupClauses (tableOf m) g)) ≤ limits .block
-  unfolding groupAt
-  group-bytes g h k =
-      let cs = groupClauses (tableOf m) g in
-      let x = clauses-bytes cs (shorts cs (group-variables m q g h k)) (group-three (tableOf m) g) in
-      let s = all-place (SettledAmong (m .n)) zeroGroup (tableOf m) (table-settled m q) (g - 1) (omega (arith, table-length m (q .sized))) in
-      let y = clause-count-few (m .n) (groupAt (tableOf m) g) s in
-      omega (arith, x, y, group-length (tableOf m) g, most-group-bytes (m .n) few)
+  -- a group's blocks, of every node that its tree has
+  module _ (g : ℕ) (h : 1 ≤ g) (k : g ≤ m .s) where
+    among : SettledAmong (m .n) (groupAt (tableOf m) g)
+    unfolding groupAt
+    among = all-place (SettledAmong (m .n)) zeroGroup (tableOf m) (table-settled m q) (g - 1) (omega (arith, table-length m (q .sized)))
+
+    pub open-most : mostBytes (openCount (groupAt (tableOf m) g)) ≤ limits .block
+    open-most =
+        let few : openCount (groupAt (tableOf m) g) ≤ limits .entrants = le-trans (open-few (m .n) (groupAt (tableOf m) g) among) few in
+        most-bytes-fit (openCount (groupAt (tableOf m) g)) few
+
+    pub group-bytes : All (λ b. length (each clauseText b) ≤ mostBytes (openCount (groupAt (tableOf m) g))) (groupBlocks (tableOf m) g)
+    unfolding mostBytes
+    group-bytes =
+        let t = tableOf m in
+        let bs = groupBlocks t g in
+        let c : ℕ = openCount (groupAt t g) in
+        let e = sym (group-joined t g (among .group)) in
+        let short = each-all (All Short) (λ b. b) bs (subst (All (All Short)) e (shorts (groupClauses t g) (group-variables m q g h k))) in
+        let three = each-all Three (λ b. b) bs (subst (All Three) e (group-three t g)) in
+        all-imp (λ b. All (All Short) b × (All Three b × Sizes c c b)) (λ b. length (each clauseText b) ≤ clauseBytes 3 * ((c + 2) * (c + 2) / 2 + c))
+        (λ b p. let w = p .1 .1 in omega (arith, clauses-bytes b (p .0) (p .1 .0), w)) bs
+        (all-zip (All (All Short)) (λ b. All Three b × Sizes c c b) bs short (all-zip (All Three) (Sizes c c) bs three (group-sizes (m .n) t g among)))
+
+  node-bytes : All Fits (nodeBlocks m)
+  unfolding nodeBlocks
+  node-bytes =
+      all-each Fits (groupBlocks (tableOf m)) (range 1 (m .s))
+      (range-all (λ g. All Fits (groupBlocks (tableOf m) g)) 1 (m .s)
+      (λ g l h. let k : g ≤ m .s = omega arith in
+      all-imp (λ b. length (each clauseText b) ≤ mostBytes (openCount (groupAt (tableOf m) g))) Fits (λ b w. le-trans w (open-most g l k))
+      (groupBlocks (tableOf m) g) (group-bytes g l k)))
 
   all-modest : All Modest (constraintsOf m)
   all-modest =
@@ -403,10 +516,9 @@ module _ (m : Model) (q : Settled m) where
   zero-modest = omega arith
 
   -- of constraint j
-  constraint-block-bytes : (j : ℕ)
-      → length (each clauseText (constraintClauses (m .n) (tableOf m) (firstDifference (1 + tableVariables (tableOf m)) m j) (getD (constraintsOf m) (j - 1) zeroConstraint)))
-      ≤ limits .block
-  constraint-block-bytes j =
+  line-bytes : (j : ℕ) → Fits (lineClauses m j)
+  unfolding lineClauses
+  line-bytes j =
       let x = firstDifference (1 + tableVariables (tableOf m)) m j in
       let c = getD (constraintsOf m) (j - 1) zeroConstraint in
       le-trans (constraint-bytes (tableOf m) x c (m .n) (all-getD Modest zeroConstraint zero-modest (constraintsOf m) all-modest (j - 1))
@@ -456,13 +568,12 @@ module _ (m : Model) (q : Settled m) where
         decimal-bound 8 (clauseCount m) (omega (arith, count-bound, i .groupCount, i .constraintCount)),
       )
 
-  -- "32,768 bytes hold each block"
+  -- "65,536 bytes hold each block"
   pub block-bound : (b : ℕ) → length (blockText m b) ≤ limits .block
   unfolding blockText
   block-bound zero = header-bytes
-  block-bound (suc b) = rw (eqb·suc-zero b) (go (decLe (suc b) (m .s)))
+  block-bound (suc b) = rw (eqb·suc-zero b) (go (decLe (suc b) (length (nodeBlocks m))))
     where
-      go : Dec (suc b ≤ m .s) → length (each clauseText (blockClauses m (suc b))) ≤ limits .block
-      go (yes h) = rw (group-block m (q .sized) (suc b) h) (group-bytes (suc b) (omega arith) h)
-      go (no h) =
-          rw (constraint-block m (q .sized) (suc b) (omega arith)) (constraint-block-bytes (suc b - m .s))
+      go : Dec (suc b ≤ length (nodeBlocks m)) → Fits (blockClauses m (suc b))
+      go (yes h) = rw (node-block m (suc b) h) (all-getD Fits [] (omega arith) (nodeBlocks m) node-bytes (suc b - 1))
+      go (no h) = rw (line-block m (suc b) (omega arith)) (line-bytes (suc b - length (nodeBlocks m)))

@@ -18,9 +18,10 @@ use Rattle.model.specs.declared.Node.{Node}
 use Rattle.model.specs.declared.Group.{Group}
 use Rattle.model.specs.Lists.{total, range}
 use Rattle.model.specs.Model.{groupAt}
-use Rattle.model.specs.Totalizer.{oppositeTerm, holds, literals, keep, up, down, formed, output, nodeTerms, putIn, dropped, rowClauses, nodeClauses, Shape, node, shapeIn, shape, leaves, outputs, rootOutput, nodeOver, nodes, treeClauses, unit, unitClauses, totalizerClauses, clauseCountIn, treeClauseCount, outputCountIn, treeOutputCount}
-use Rattle.model.specs.Cnf.{openCount, atLeast, atMost, counted, firstVariable, firstOutput, groupClauses, groupClauseCount}
+use Rattle.model.specs.Totalizer.{oppositeTerm, holds, literals, keep, up, down, formed, output, nodeTerms, putIn, dropped, rowClauses, nodeClauses, Shape, node, shapeIn, shape, leaves, outputs, rootOutput, nodeOver, nodes, unit, unitClauses, clauseCountIn, treeClauseCount, outputCountIn, treeOutputCount}
+use Rattle.model.specs.Cnf.{openCount, atLeast, atMost, counted, firstVariable, firstOutput, groupClauseCount}
 use Rattle.model.proofs.Lists.{T-true, T-false, length-each, range-length, total-ext, total-add, total-const, total-but-one}
+use Rattle.encoding_laws.specs.Division.{treeClauses, totalizerClauses, groupClauses}
 use Rattle.encoding_laws.proofs.Node.{output-in, output-out}
 use Rattle.encoding_laws.proofs.Tree.{tree-node}
 use Rattle.encoding_laws.proofs.Totalizer.{shapeIn-step, shapeIn-one, leaves-shapeIn, leaves-shape, shape-step}

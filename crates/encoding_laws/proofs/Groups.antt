@@ -1,11 +1,10 @@
--- The clauses of the listing as those of the groups and those of the constraints, and the groups' numbering from one to the next. Assumes nothing.
+-- The constraints' clauses and the groups, from one to the next with their numbering. Assumes nothing.
 use mathlib.Core.Path.{_≡_, refl, sym, ap, ap₂, _∙_}
 use mathlib.Core.Bool.{Bool, true, false, cond, _&&_}
 use mathlib.Core.List.{List, [], _∷_, _++_, map}
-use Prim.Native.Nat.{ℕ, suc, _+_, _-_, _%_, _^_, _≤_, _<_}
+use Prim.Native.Nat.{ℕ, suc, _+_, _-_, _%_, _^_}
 use native.Mathlib.Nat.{add-zero, zero-add, suc-add, add-assoc}
 use native.Mathlib.Omega.{arith}
-use borrow.Author.Tests.{le-leb, lt-leb}
 use lib.Dec.{eqb}
 use lib.ListN.{length, getD, take, length-append, length-take}
 use Rattle.model.specs.declared.Literal.{Literal}
@@ -21,9 +20,8 @@ use Rattle.model.specs.Clauses.{memberClauses, isDifference}
 use Rattle.model.specs.Model.{zeroGroup, zeroConstraint, groupAt, tableOf, constraintsOf, Sized}
 use Rattle.model.specs.Difference.{isApart}
 use Rattle.model.specs.Totalizer.{oppositeTerm, holds, literals, keep}
-use Rattle.model.specs.Cnf.{openCount, outputsOf, firstVariable, firstOutput, isOpenDifference, differing, differenceCount, firstDifference, tableVariables, groupClauses, membership, difference, constraintTerm, termOf, clausesAt, lastClause, constraintClauses, blockClauses, blockCount, clauses, groupClauseCount, clauseCount}
-use Rattle.model.proofs.Lists.{any-map, any-ext, each-append, each-range-ext, range-append, length-each, total-ext, total-map, values-make, places}
-use Rattle.encoding_laws.proofs.Counts.{group-length}
+use Rattle.model.specs.Cnf.{openCount, outputsOf, firstVariable, firstOutput, isOpenDifference, differing, differenceCount, firstDifference, tableVariables, membership, difference, constraintTerm, termOf, clausesAt, lastClause, constraintClauses, lineClauses}
+use Rattle.model.proofs.Lists.{any-map, any-ext, each-range-ext, length-each, total-ext, values-make, places}
 
 -- ---- from constraint to constraint
 
@@ -122,7 +120,7 @@ module _ (t : List Group) (c : Constraint) (x y : ℕ) where
       (last-count n)
       ∙ sym (length-append (each (clausesAt y t c) (range 0 n)) (lastClause n y t c))
 
-constraints-counted : (n : ℕ) (t : List Group) (cs : List Constraint) (x : ℕ)
+pub constraints-counted : (n : ℕ) (t : List Group) (cs : List Constraint) (x : ℕ)
     → length (overConstraints t (constraintClauses n t) cs x) ≡ total (λ c. length (constraintClauses n t 0 c)) cs
 constraints-counted n t [] x = refl
 constraints-counted n t (c ∷ cs) x =
@@ -140,29 +138,14 @@ module _ (m : Model) (z : Sized m) where
   unfolding constraintsOf
   constraints-length = length-take (m .c) (m .constraints) ∙ omega (arith, z .constraints)
 
-  pub group-block : (b : ℕ) → b ≤ m .s → blockClauses m b ≡ groupClauses (tableOf m) b
-  unfolding blockClauses
-  group-block b h = rw (le-leb b (m .s) h)
-
-  pub constraint-block : (b : ℕ) → m .s < b
-      → blockClauses m b
-      ≡ constraintClauses (m .n) (tableOf m) (firstDifference (1 + tableVariables (tableOf m)) m (b - m .s)) (getD (constraintsOf m) (b - m .s - 1) zeroConstraint)
-  unfolding blockClauses
-  constraint-block b h = rw (lt-leb b (m .s) h)
-
-  -- the groups' clauses, then the constraints'
-  pub clauses-parts : clauses m
-      ≡ each (groupClauses (tableOf m)) (range 1 (m .s)) ++ overConstraints (tableOf m) (constraintClauses (m .n) (tableOf m)) (constraintsOf m) (1 + tableVariables (tableOf m))
-  unfolding clauses blockCount firstDifference
-  clauses-parts =
-      ap (each (blockClauses m)) (range-append 1 (m .s) (m .c))
-      ∙ each-append (blockClauses m) (range 1 (m .s)) (range (1 + m .s) (m .c))
-      ∙ ap₂ (λ (x y : List (List Literal)). x ++ y)
-      (each-range-ext (blockClauses m) (groupClauses (tableOf m)) 1 (m .s) (λ j l k. group-block j (omega arith)))
-      (each-range-ext (blockClauses m) (λ b. at (b - (1 + m .s))) (1 + m .s) (m .c)
-      (λ j l k. constraint-block j (omega arith) ∙ ap at {x = j - m .s - 1} {y = j - (1 + m .s)} (omega arith))
-      ∙ ap (λ (k : ℕ). each (λ b. at (b - (1 + m .s))) (range (1 + m .s) k)) (sym constraints-length)
-      ∙ constraints-numbered (tableOf m) (constraintClauses (m .n) (tableOf m)) (constraintsOf m) (1 + tableVariables (tableOf m)) (1 + m .s))
+  -- the constraints' blocks, one after the other
+  pub lines-parts : (k : ℕ) → each (λ b. lineClauses m (b - k)) (range (1 + k) (m .c))
+      ≡ overConstraints (tableOf m) (constraintClauses (m .n) (tableOf m)) (constraintsOf m) (1 + tableVariables (tableOf m))
+  unfolding lineClauses firstDifference
+  lines-parts k =
+      each-range-ext (λ b. lineClauses m (b - k)) (λ b. at (b - (1 + k))) (1 + k) (m .c) (λ j l h. ap at {x = j - k - 1} {y = j - (1 + k)} (omega arith))
+      ∙ ap (λ (c : ℕ). each (λ b. at (b - (1 + k))) (range (1 + k) c)) (sym constraints-length)
+      ∙ constraints-numbered (tableOf m) (constraintClauses (m .n) (tableOf m)) (constraintsOf m) (1 + tableVariables (tableOf m)) (1 + k)
     where
       at : ℕ → List (List Literal)
       at i =
@@ -172,20 +155,6 @@ module _ (m : Model) (z : Sized m) where
   pub groups-places : map (groupAt (tableOf m)) (range 1 (m .s)) ≡ tableOf m
   unfolding groupAt
   groups-places = ap (λ (k : ℕ). map (groupAt (tableOf m)) (range 1 k)) (sym table-length) ∙ places 1 (tableOf m) zeroGroup
-
-  -- C is the number of clauses
-  pub clauses-length : length (clauses m) ≡ clauseCount m
-  unfolding clauseCount
-  clauses-length =
-      let t = tableOf m in
-      ap length clauses-parts
-      ∙ length-append (each (groupClauses t) (range 1 (m .s))) (overConstraints t (constraintClauses (m .n) t) (constraintsOf m) (1 + tableVariables t))
-      ∙ ap₂ (λ (x y : ℕ). x + y)
-      (length-each (groupClauses t) (range 1 (m .s))
-      ∙ total-ext (λ g. length (groupClauses t g)) (λ g. groupClauseCount (groupAt t g)) (group-length t) (range 1 (m .s))
-      ∙ sym (total-map groupClauseCount (groupAt t) (range 1 (m .s)))
-      ∙ ap (total groupClauseCount) groups-places)
-      (constraints-counted (m .n) t (constraintsOf m) (1 + tableVariables t))
 
 -- ---- from group to group
 

@@ -6,6 +6,7 @@ pub mod Steps
 pub mod Counts
 pub mod Groups
 pub mod Fixpoint
+pub mod Blocks
 pub mod Row
 pub mod Differences
 pub mod Nonempty

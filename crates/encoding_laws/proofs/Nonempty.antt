@@ -24,7 +24,7 @@ use Rattle.model.specs.Model.{zeroGroup, zeroConstraint, groupAt, memberAt, tab
 use Rattle.model.specs.Difference.{mayDiffer, isApart}
 use Rattle.model.specs.Propagate.{falseIn, allFalse, fixedWith, possibleWithout, madeTrue, literalRule, clauseRule, scope, Settled}
 use Rattle.model.specs.Totalizer.{oppositeTerm, holds, literals, keep}
-use Rattle.model.specs.Cnf.{isOpenDifference, differing, firstDifference, tableVariables, membership, difference, termOf, variableOf, clausesAt, lastClause, constraintClauses, blockClauses}
+use Rattle.model.specs.Cnf.{isOpenDifference, differing, firstDifference, tableVariables, membership, difference, termOf, variableOf, clausesAt, lastClause, constraintClauses, lineClauses, nodeBlocks, blockClauses}
 use Rattle.model.specs.Text.{hasEmptyClause}
 use Rattle.model.specs.Assignment.{variable}
 use Rattle.model.proofs.Words.{bit-le, bit-zero, bit-past, bit-ext, bit-and, bit-or, bit-less, bit-full, has-one, has-none}
@@ -34,7 +34,8 @@ use Rattle.propagation_laws.proofs.Meaning.{rule-clauses}
 use Rattle.propagation_laws.proofs.Ranges.{in-range, constraint-code, member-below}
 use Rattle.encoding_laws.proofs.Fixpoint.{SettledAmong, table-settled, differs-keep, clauses-keep, first-keeps}
 use Rattle.encoding_laws.proofs.Differences.{six-scope, six-at, six-last, differing-lt, apart-at, apart-last, apart-bits, some-differing, open-last, four}
-use Rattle.encoding_laws.proofs.Groups.{table-length, constraint-block}
+use Rattle.encoding_laws.proofs.Groups.{table-length}
+use Rattle.encoding_laws.proofs.Blocks.{line-block}
 
 abbrev HasLiteral : List Literal → Type 0
 HasLiteral ls = T (not (isEmpty ls))
@@ -289,20 +290,23 @@ module _ (m : Model) (q : Settled m) where
 
   -- refusal 29 cannot occur after 22
   pub no-empty-clause : (b : ℕ) → T (not (hasEmptyClause m b))
-  unfolding hasEmptyClause
-  no-empty-clause b = go (ltb (m .s) b) refl
+  unfolding hasEmptyClause lineClauses
+  no-empty-clause b = go (ltb k b) refl
     where
+      k : ℕ
+      k = length (nodeBlocks m)
+
       x : ℕ
-      x = firstDifference (1 + tableVariables (tableOf m)) m (b - m .s)
+      x = firstDifference (1 + tableVariables (tableOf m)) m (b - k)
 
       none-empty : (cs : List (List Literal)) → All HasLiteral cs → T (not (any isEmpty cs))
       none-empty [] h = tt
       none-empty ([] ∷ cs) h = absurd (h .0)
       none-empty ((l ∷ ls) ∷ cs) h = none-empty cs (h .1)
 
-      go : (x : Bool) → ltb (m .s) b ≡ x → T (not (x && any isEmpty (blockClauses m b)))
+      go : (x : Bool) → ltb k b ≡ x → T (not (x && any isEmpty (blockClauses m b)))
       go false e = tt
       go true e =
-          rw (constraint-block m (q .sized) b (ltb-true (m .s) b e))
-          (none-empty (constraintClauses (m .n) (tableOf m) x (getD (constraintsOf m) (b - m .s - 1) zeroConstraint))
-          (all-getD (λ c. All HasLiteral (constraintClauses (m .n) (tableOf m) x c)) zeroConstraint (no-clauses x) (constraintsOf m) (constraints-filled x) (b - m .s - 1)))
+          rw (line-block m b (ltb-true k b e))
+          (none-empty (constraintClauses (m .n) (tableOf m) x (getD (constraintsOf m) (b - k - 1) zeroConstraint))
+          (all-getD (λ c. All HasLiteral (constraintClauses (m .n) (tableOf m) x c)) zeroConstraint (no-clauses x) (constraintsOf m) (constraints-filled x) (b - k - 1)))

@@ -23,16 +23,18 @@ use Rattle.model.specs.Clauses.{memberClauses, isDifference}
 use Rattle.model.specs.Model.{zeroGroup, zeroConstraint, groupAt, tableOf, constraintsOf}
 use Rattle.model.specs.Difference.{isApart}
 use Rattle.model.specs.Propagate.{Settled}
-use Rattle.model.specs.Totalizer.{opposite, oppositeTerm, holds, literals, keep, formed, output, outputTerm, nodeTerms, putIn, dropped, rowClauses, nodeClauses, Shape, leaf, node, shape, leaves, outputs, rootOutput, nodeOver, nodes, treeClauses, unit, unitClauses, totalizerClauses, treeOutputCount}
-use Rattle.model.specs.Cnf.{openOf, openCount, atLeast, atMost, counted, outputsOf, firstVariable, firstOutput, variableOf, tableVariables, isOpenDifference, differing, differenceCount, firstDifference, variableCount, groupClauses, membership, difference, constraintTerm, termOf, clausesAt, lastClause, constraintClauses, clauses}
+use Rattle.model.specs.Totalizer.{opposite, oppositeTerm, holds, literals, keep, formed, output, outputTerm, nodeTerms, putIn, dropped, rowClauses, nodeClauses, Shape, leaf, node, shape, leaves, outputs, rootOutput, nodeOver, nodes, unit, unitClauses, treeOutputCount}
+use Rattle.model.specs.Cnf.{openOf, openCount, atLeast, atMost, counted, outputsOf, firstVariable, firstOutput, variableOf, tableVariables, isOpenDifference, differing, differenceCount, firstDifference, variableCount, membership, difference, constraintTerm, termOf, clausesAt, lastClause, constraintClauses, clauses}
 use Rattle.model.specs.Assignment.{variable}
 use Rattle.model.proofs.Words.{size-zero, has-one, has-none, has-zero, bit-less, size-below-lt}
 use Rattle.model.proofs.Lists.{total-place, All, all-both, all-each, all-map-iff, all-of, range-all, all-place}
+use Rattle.encoding_laws.specs.Division.{treeClauses, totalizerClauses, groupClauses}
 use Rattle.encoding_laws.proofs.Node.{output-in, output-out}
 use Rattle.encoding_laws.proofs.Tree.{tree-node}
 use Rattle.encoding_laws.proofs.Totalizer.{leaves-shape}
 use Rattle.encoding_laws.proofs.Counts.{outputs-count}
-use Rattle.encoding_laws.proofs.Groups.{table-length, overConstraints, clauses-parts}
+use Rattle.encoding_laws.proofs.Groups.{table-length, overConstraints}
+use Rattle.encoding_laws.proofs.Blocks.{clauses-parts}
 use Rattle.encoding_laws.proofs.Fixpoint.{SettledAmong, table-settled}
 use Rattle.encoding_laws.proofs.Whole.{OpenLimits, limits-of, counted-pos}
 
@@ -314,7 +316,7 @@ module _ (m : Model) (q : Settled m) where
       let hi = suc (variableCount m) in
       let gs = each (groupClauses t) (range 1 (m .s)) in
       let cs = overConstraints t (constraintClauses (m .n) t) (constraintsOf m) (1 + tableVariables t) in
-      subst (VariablesIn m) (sym (clauses-parts m (q .sized)))
+      subst (VariablesIn m) (sym (clauses-parts m q))
       (all-both (All (In 1 hi)) gs cs .1 (
         all-each (All (In 1 hi)) (groupClauses t) (range 1 (m .s))
             (range-all (λ g. VariablesIn m (groupClauses t g)) 1 (m .s) (λ g h k. group-variables g h (omega arith))),

@@ -3,7 +3,7 @@ use mathlib.Core.Path.{_≡_, refl, sym, ap, _∙_}
 use mathlib.Core.Bool.{false, not}
 use mathlib.Core.List.{List, [], _∷_, _++_, map, append-assoc, append-nil}
 use mathlib.Core.Option.{some}
-use Prim.Native.Nat.{ℕ, zero, suc, _≤_, _<_}
+use Prim.Native.Nat.{ℕ, zero, suc, _+_, _≤_, _<_}
 use native.Mathlib.Numerals.{add-one}
 use native.Mathlib.Omega.{arith}
 use borrow.Author.Tests.{ne-eqb}
@@ -20,8 +20,10 @@ use Rattle.model.specs.Text.{decimal, literalText, clauseText, headerText, bloc
 use Rattle.model.specs.Dimacs.{isBlank, pieces, tokens, natural, literal, end, signedNumber, number, more, clausesFrom, isComment, withHeader, formulaOf, readDimacs}
 use Rattle.model.specs.Assignment.{variable}
 use Rattle.model.proofs.Lists.{each-each, each-range-ext, those-all, All, all-both, all-imp, all-map-iff, all-of, all-each}
+use Rattle.encoding_laws.specs.Division.{clausesByGroup, listingByGroup, SameListing}
 use Rattle.encoding_laws.proofs.Decimal.{decimal-digits, decimal-some, decimal-natural}
 use Rattle.encoding_laws.proofs.Ranges.{In, variables-in}
+use Rattle.encoding_laws.proofs.Blocks.{group-whole, by-group-parts}
 
 -- ---- the listing as a header line and a line for each clause
 
@@ -263,3 +265,15 @@ listing-reads m q =
     ∙ text-reads m (clauses m)
     (all-imp (All (In 1 (suc (variableCount m)))) (All (λ l. 1 ≤ variable l))
     (λ c h. all-imp (In 1 (suc (variableCount m))) (λ l. 1 ≤ variable l) (λ l k. k .0) c h) (clauses m) (variables-in m q))
+
+-- ---- document 01's division: the same bytes
+
+pub same-listing : (m : Model) → Settled m → SameListing m
+unfolding listingByGroup
+same-listing m q = record {
+  groups = group-whole m q;
+  bytes =
+      listing-parts m
+      ∙ ap (λ (cs : List (List Literal)). headerText m ++ each clauseText cs) (sym (by-group-parts m q))
+      ∙ ap (λ (text : List ℕ). headerText m ++ text) (each-each clauseText (clausesByGroup m) (range 1 (m .s + m .c)));
+}

@@ -12,7 +12,8 @@ use lib.Arith.{lt→nleb, le→nltb}
 use Rattle.model.specs.declared.Literal.{Literal}
 use Rattle.model.specs.declared.Literal.the-variants.{Pos, Neg}
 use Rattle.model.specs.Lists.{range}
-use Rattle.model.specs.Totalizer.{nodeClauses, leaf, node, shapeIn, shape, leaves, outputs, rootOutput, treeClauses, unit, unitClauses, totalizerClauses}
+use Rattle.model.specs.Totalizer.{nodeClauses, leaf, node, shapeIn, shape, leaves, outputs, rootOutput, unit, unitClauses}
+use Rattle.encoding_laws.specs.Division.{treeClauses, totalizerClauses}
 use Rattle.model.specs.Close.{truth, literalTrue, clauseTrue}
 use Rattle.model.specs.Fill.{count}
 use Rattle.model.proofs.Lists.{T-true, T-false, every-map, every-range, range-every}

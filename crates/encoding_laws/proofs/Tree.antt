@@ -11,10 +11,11 @@ use lib.ListN.{length, take, drop, length-append}
 use lib.Seq.{take-at, drop-at}
 use Rattle.model.specs.Lists.{range}
 use Rattle.model.specs.declared.Literal.{Literal}
-use Rattle.model.specs.Totalizer.{nodeClauses, Shape, leaf, node, leaves, outputs, rootOutput, nodeOver, nodes, treeClauses}
+use Rattle.model.specs.Totalizer.{nodeClauses, Shape, leaf, node, leaves, outputs, rootOutput, nodeOver, nodes}
 use Rattle.model.specs.Close.{truth}
 use Rattle.model.specs.Fill.{count, unary, treeValues}
 use Rattle.model.proofs.Lists.{values-get, values-make, values-append, values-length, append-iff, each-append}
+use Rattle.encoding_laws.specs.Division.{treeClauses}
 use Rattle.encoding_laws.proofs.Truth.{allTrue, allTrue-append}
 use Rattle.encoding_laws.proofs.Node.{Unary, node→, node←}
 

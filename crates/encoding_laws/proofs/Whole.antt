@@ -25,24 +25,26 @@ use Rattle.model.specs.Clauses.{byEntrant, memberCount, memberClauses, isDiffer
 use Rattle.model.specs.Model.{zeroGroup, groupAt, memberAt, tableOf, constraintsOf, membersSized, constraintInRange}
 use Rattle.model.specs.Difference.{apart, isApart}
 use Rattle.model.specs.Propagate.{Settled}
-use Rattle.model.specs.Totalizer.{shape, totalizerClauses, treeOutputCount}
-use Rattle.model.specs.Cnf.{openOf, openCount, atLeast, atMost, counted, outputsOf, firstVariable, firstOutput, variableOf, tableVariables, differing, differenceCount, variableCount, groupClauses, membership, difference, constraintTerm, termOf, clausesAt, lastClause, constraintClauses, clauses}
+use Rattle.model.specs.Totalizer.{shape, treeOutputCount}
+use Rattle.model.specs.Cnf.{openOf, openCount, atLeast, atMost, counted, outputsOf, firstVariable, firstOutput, variableOf, tableVariables, differing, differenceCount, variableCount, membership, difference, constraintTerm, termOf, clausesAt, lastClause, constraintClauses, clauses}
 use Rattle.model.specs.Solution.{allowed, setOf, constraintTrue, isSolution}
 use Rattle.model.specs.Close.{truth, termTrue, clauseTrue, satisfying, groupBy, groupsBy}
 use Rattle.model.specs.Fill.{count, openValues, variableValues, treeValues, outputValues, oneOf, memberSet, differenceValues, assignmentFor}
 use Rattle.model.specs.Demand.{isAssignment, isSatisfying}
-use Rattle.model.proofs.Words.{bit-zero, bit-or, bit-ext, size-zero, Sub, sub-inside, inside-sub, sub-less, sub-le, size-less, bit-less, bit-le, has-less, word-ext, where-lt, has-where}
+use Rattle.model.proofs.Words.{bit-zero, bit-or, bit-ext, size-zero, Sub, sub-inside, inside-sub, sub-less, sub-le, size-le, size-less, bit-less, bit-le, has-less, word-ext, where-lt, has-where}
 use Rattle.model.proofs.Lists.{T-true, T-false, and-left, and-right, and-both, every-append, every-each, every-map, every-ext, any-map, any-ext, any-all-ext, every-range-ext, length-each, total-ext, values-make, values-append, values-length, append-iff, All, all-zip, all-map-iff, all-of, all-getD, range-all, every-all, getD-map-in, range-getD, range-length}
 use Rattle.encoding_laws.proofs.Truth.{allTrue, allTrue-append, T-and, opposite-true, keep-true, kept-true}
 use Rattle.encoding_laws.proofs.Tree.{tree-values-length, valuesFrom, count-le}
 use Rattle.encoding_laws.proofs.Totalizer.{totalizer-iff, leaves-shape}
 use Rattle.encoding_laws.proofs.Counts.{outputs-count}
-use Rattle.encoding_laws.proofs.Groups.{table-length, clauses-parts, overConstraints, overGroups, numbered}
+use Rattle.encoding_laws.proofs.Groups.{table-length, overConstraints, overGroups, numbered}
+use Rattle.encoding_laws.proofs.Blocks.{clauses-parts}
 use Rattle.propagation_laws.proofs.GroupRule.{SettledGroup}
 use Rattle.propagation_laws.proofs.Ranges.{in-range, constraint-code, member-group}
 use Rattle.propagation_laws.proofs.Meaning.{literalFor, clausesFor, clausesHold, over-entrant, same-clauses, meaning-below, difference-sets}
 use Rattle.encoding_laws.proofs.Fixpoint.{SettledAmong, table-settled}
 use Rattle.model.proofs.Codes.{entrant-or-seven}
+use Rattle.encoding_laws.specs.Division.{totalizerClauses, groupClauses}
 use Rattle.encoding_laws.proofs.Differences.{six-difference, six-apart, six-differing, six-last, six-member, zero-settled, differing-lt, apart-differing, apart-clauses, is-difference, apart-some, apart-bits, differing-bits, open-last, four, one-bits, one-has, one-lt, one-none, equal-words, four-true, differenceWord, difference-has, some-true}
 use Rattle.encoding_laws.proofs.Row.{inRow, rowWord, Apart, Holding, row-size, row-values, row-of, row-holding, open-length}
 
@@ -89,6 +91,10 @@ open-apart r s = record { bits = λ e. omega (arith, bit-less e (r .possible) (r
 pub open-lt : (n : ℕ) (r : Group) → SettledAmong n r → openOf r < 2 ^ n
 unfolding openOf
 open-lt n r s = let h = sub-le (sub-less (r .possible) (r .fixed)) in omega (arith, s .small)
+
+pub open-few : (n : ℕ) (r : Group) → SettledAmong n r → openCount r ≤ n
+unfolding openCount
+open-few n r s = size-le n (openOf r) (open-lt n r s)
 
 pub fixed-lt : (n : ℕ) (r : Group) → SettledAmong n r → r .fixed < 2 ^ n
 fixed-lt n r s = let h = sub-le (s .group .fits) in omega (arith, s .small)
@@ -729,7 +735,7 @@ module _ (m : Model) (q : Settled m) (wide : T (membersSized m)) where
       let cs = overConstraints t (constraintClauses (m .n) t) (constraintsOf m) (1 + tableVariables t) in
       let xs = each (differenceValues (m .n) t (groupsBy m a)) (constraintsOf m) in
       let w = allTrue-append a gs cs in
-      let e : allTrue a (clauses m) ≡ allTrue a (gs ++ cs) = ap (allTrue a) (clauses-parts m (q .sized)) in
+      let e : allTrue a (clauses m) ≡ allTrue a (gs ++ cs) = ap (allTrue a) (clauses-parts m q) in
       let g = groups-iff (m .n) a t 1 (1 + opens) settled in
       let k = constraints-iff m a settled (constraintsOf m) (1 + tableVariables t) constraints-good in
       let p = extra-part a h in

@@ -1,11 +1,11 @@
 -- The refusals of reading and settling decide which case of a definition is answered. Assumes nothing.
-use mathlib.Core.Path.{_≡_, refl, sym, _∙_}
+use mathlib.Core.Path.{_≡_, refl, sym, ap, _∙_, subst}
 use mathlib.Core.Bool.{Bool, true, false, cond}
 use mathlib.Core.List.{List}
 use Prim.Native.Nat.{ℕ, _*_, _≤_}
 use native.Mathlib.Omega.{arith}
-use borrow.Author.Tests.{ne-eqb, eqb-false, lt-ltb, le-ltb, le-leb, leb-true, leb-false}
-use lib.Dec.{eqb, ltb, leb}
+use borrow.Author.Tests.{ne-eqb, eqb-true, eqb-false, lt-ltb, le-ltb, le-leb, leb-true, leb-false}
+use lib.Dec.{T, eqb, ltb, leb}
 use lib.ListN.{length}
 use Rattle.model.specs.declared.Group.{Group}
 use Rattle.model.specs.declared.Model.{Model}
@@ -16,16 +16,19 @@ use Rattle.model.specs.Limits.{limits}
 use Rattle.model.specs.Model.{tableOf, withTable, inRange}
 use Rattle.model.specs.Sheet.{readSheet}
 use Rattle.model.specs.Propagate.{Outcome, contradiction, fixpoint, outcome, refusedPropagation, propagatedAs, propagated}
+use Rattle.model.specs.Cnf.{blockCount}
 use Rattle.model.specs.Text.{writtenBlock, blockBuffer}
 use Rattle.model.specs.Close.{closed}
 use Rattle.model.specs.Fill.{fillRefusal, filledValues}
-use Rattle.model.proofs.Lists.{true-T}
+use Rattle.model.proofs.Lists.{T-true, true-T}
 use Rattle.propagation_laws.proofs.Ranges.{in-range}
+use Rattle.propagation_laws.proofs.Sheets.{sheet-propagation}
+use Rattle.certificate.proofs.Answer.{accepted-of}
 use Rattle.cnf.specs.declared.Run.{Run}
 use Rattle.cnf.specs.Run.{runOf, runBuffer}
 use Rattle.words.specs.Words.{setsFrom}
 use Rattle.packing.specs.Packing.{numbered, writtenNumber, runNumber, noGroups, hasRoom, groupsLaid}
-use Rattle.exports.specs.Draw.{settledSheet, fitted, settleNumber, tableAfter, sheetBlock, drawBlock, drawBuffer, sheetRun, drawBlocks, drawRun, readingOf, closedSheet, drawFill, drawValues}
+use Rattle.exports.specs.Draw.{settledSheet, fitted, settleNumber, tableAfter, sheetBlock, drawBlock, drawBuffer, drawBlockCount, sheetRun, drawBlocks, drawRun, readingOf, closedSheet, drawFill, drawValues}
 
 -- ---- the reader's refusal comes first
 
@@ -166,3 +169,29 @@ module _ (b : List ℕ) (p : Propagated) (e : p ≡ settledSheet b) where
     pub closing : (flag : ℕ) (values : List ℕ) → closed (p .model) (readingOf flag) values ≡ closedSheet b flag values
     unfolding closedSheet
     closing flag values = rw (← e, z)
+
+-- ---- where the listing ends
+
+settled-range : (b : List ℕ) → settledSheet b .refusal ≡ 0 → T (inRange (settledSheet b .model))
+unfolding settledSheet refusedPropagation
+settled-range b = go (eqb (readSheet b .refusal) 0) refl
+  where
+    r : SheetRead
+    r = readSheet b
+
+    go : (x : Bool) → eqb (r .refusal) 0 ≡ x
+        → cond x (propagated (r .model)) (refusedPropagation (r .refusal) (r .model)) .refusal ≡ 0
+        → T (inRange (cond x (propagated (r .model)) (refusedPropagation (r .refusal) (r .model)) .model))
+    go true q z = sheet-propagation b (r .model) (accepted-of b r refl (eqb-true (r .refusal) 0 q)) .in-range
+    go false q z = absurd (eqb-false (r .refusal) 0 q z)
+
+module _ (b : List ℕ) (p : Propagated) (e : p ≡ settledSheet b) where
+  pub count-refused : (p .refusal ≡ 0 → ⊥) → numbered (p .refusal) 0 ≡ drawBlockCount b
+  unfolding drawBlockCount
+  count-refused h = rw (← e, ne-eqb (p .refusal) 0 h)
+
+  pub count-is : p .refusal ≡ 0 → (k : ℕ) → k ≡ cond (inRange (p .model)) (blockCount (p .model)) 0 → numbered 0 k ≡ drawBlockCount b
+  unfolding drawBlockCount
+  count-is z k q =
+      let r : T (inRange (p .model)) = subst (λ (x : Propagated). x .refusal ≡ 0 → T (inRange (x .model))) (sym e) (settled-range b) z in
+      rw (← e, z) (ap (numbered 0) (q ∙ rw (T-true (inRange (p .model)) r)))

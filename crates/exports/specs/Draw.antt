@@ -11,9 +11,10 @@ use Rattle.model.specs.declared.Reading.{Reading}
 use Rattle.model.specs.declared.Closed.{Closed}
 use Rattle.model.specs.declared.Combined.{Combined}
 use Rattle.model.specs.Lists.{each}
-use Rattle.model.specs.Model.{tableOf}
+use Rattle.model.specs.Model.{tableOf, inRange}
 use Rattle.model.specs.Sheet.{readSheet}
 use Rattle.model.specs.Propagate.{propagated, refusedPropagation}
+use Rattle.model.specs.Cnf.{blockCount}
 use Rattle.model.specs.Text.{writtenBlock, blockBuffer}
 use Rattle.model.specs.SheetText.{writtenSheet, sheetBuffer}
 use Rattle.model.specs.Assignment.{lineRead}
@@ -80,6 +81,16 @@ drawBuffer sheet block buffer =
 -- and of a model
 unfoldable pub modelBlock : List ℕ → ℕ → ℕ → ℕ
 modelBlock words block room = writtenNumber (writtenBlock (modelFrom words) block room)
+
+-- the number of the last block of the settled sheet
+unfoldable pub drawBlockCount : List ℕ → ℕ
+drawBlockCount sheet =
+    let p = settledSheet sheet in
+    numbered (p .refusal) (cond (eqb (p .refusal) 0) (blockCount (p .model)) 0)
+
+-- and of a model, 0 where it is out of range
+unfoldable pub modelBlockCount : List ℕ → ℕ
+modelBlockCount words = cond (inRange (modelFrom words)) (blockCount (modelFrom words)) 0
 
 -- a model's sheet
 unfoldable pub modelSheet : List ℕ → ℕ → ℕ

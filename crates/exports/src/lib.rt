@@ -8,7 +8,7 @@ ghost use Rattle.model.specs.Text.{blockBuffer};
 ghost use Rattle.model.specs.SheetText.{sheetBuffer};
 ghost use Rattle.model.specs.Fill.{fillRefusal, filledValues};
 ghost use Rattle.words.specs.Words.{setsFrom, modelFrom};
-ghost use Rattle.exports.specs.Draw.{drawRead, settledSheet, fitted, settleNumber, tableAfter, drawSettle, drawTable, modelSettle, modelTable, drawBlock, drawBuffer, modelBlock, modelSheet, drawBlocks, drawRun, readingOf, drawLine, closedSheet, drawClose, drawGroups, modelClose, modelGroups, drawFill, drawValues, combinedSheets, drawCombine, drawCombined, modelCombine, modelCombined};
+ghost use Rattle.exports.specs.Draw.{drawRead, settledSheet, fitted, settleNumber, tableAfter, drawSettle, drawTable, modelSettle, modelTable, drawBlock, drawBuffer, modelBlock, drawBlockCount, modelBlockCount, modelSheet, drawBlocks, drawRun, readingOf, drawLine, closedSheet, drawClose, drawGroups, modelClose, modelGroups, drawFill, drawValues, combinedSheets, drawCombine, drawCombined, modelCombine, modelCombined};
 ghost use Rattle.certificate.specs.declared.Opening.the-variants.{Open};
 ghost use Rattle.certificate.specs.NoDraw.{openingOf};
 ghost use Rattle.exports.specs.Certify.{verdictNumber, Judged};
@@ -106,6 +106,28 @@ pub extern "C" fn draw_block_model(words: &[u64], block: u32, buffer: &mut [u8])
     let m = words::model_from(words);
     let w = cnf::write_block(m, block, buffer);
     packing::written_number(w)
+}
+
+// Where the listing of the settled sheet ends: refusal * 65536 + the number of its last block.
+#[no_mangle]
+pub extern "C" fn draw_block_count(sheet: &[u8]) -> u64
+    ensures { λ r. ⌜ r ≡ drawBlockCount (now (sheet .entry)) ⌝ }
+{
+    let p = settled(sheet);
+    if p.refusal != 0 {
+        return packing::numbered(p.refusal, 0);
+    }
+    let m = p.model;
+    packing::numbered(0, blocks::block_count(m))
+}
+
+// The number of a model's last block, settled or not; 0 where it is out of range.
+#[no_mangle]
+pub extern "C" fn draw_block_count_model(words: &[u64]) -> u32
+    ensures { λ r. ⌜ r ≡ modelBlockCount (now (words .entry)) ⌝ }
+{
+    let m = words::model_from(words);
+    blocks::block_count(m)
 }
 
 // A model's sheet: refusal * 4294967296 + length.

@@ -1,6 +1,6 @@
 -- The starred examples A to I of document 01, as request 1 has them, proved together as one table over the definitions; the limits of each code,
--- fillings, the printed steps of a node, the published DIMACS samples, blank marks, two committees' sheets and groups that must not be the same beside
--- them. Assumes nothing.
+-- fillings, the printed steps of a node, the published DIMACS samples, blank marks, two committees' sheets, groups that must not be the same and
+-- sixty-four entrants beside them. Assumes nothing.
 use mathlib.Core.Path.{_≡_, refl}
 use Prim.Native.Nat.{ℕ, _-_}
 use Prim.Native.Char.{code}
@@ -18,11 +18,12 @@ use Rattle.model.specs.declared.Constraint.{Constraint}
 use Rattle.model.specs.declared.Model.{Model}
 use Rattle.model.specs.declared.Closed.{Closed}
 use Rattle.model.specs.Lists.{every, those, each, pairwise, range}
-use Rattle.model.specs.Model.{zeroConstraint, tableOf, inRange}
+use Rattle.model.specs.Limits.{limits}
+use Rattle.model.specs.Model.{zeroGroup, zeroConstraint, tableOf, inRange}
 use Rattle.model.specs.Sheet.{readSheet}
 use Rattle.model.specs.Propagate.{propagated, sameTable, isFixpoint}
-use Rattle.model.specs.Totalizer.{formed, putIn, dropped, shape, nodes, treeClauseCount, treeOutputCount}
-use Rattle.model.specs.Cnf.{variableCount, clauses}
+use Rattle.model.specs.Totalizer.{formed, putIn, dropped, shape, nodes, totalizerBlocks, treeClauseCount, treeOutputCount}
+use Rattle.model.specs.Cnf.{variableCount, blockClauses, blockCount, clauses}
 use Rattle.model.specs.Text.{fieldText, headerText, blockText, listing, blockRefusal}
 use Rattle.model.specs.SheetText.{sheetText}
 use Rattle.model.specs.Dimacs.{Formula, readDimacs}
@@ -128,7 +129,7 @@ exampleA =
     && same (blockText m 1) (bytes "1 2 -5 0\n-2 5 0\n1 -6 0\n-1 5 0\n2 -6 0\n-1 -2 6 0\n5 0\n-6 0\n")
     && same (blockText m 2) (bytes "3 4 -7 0\n-4 7 0\n3 -8 0\n-3 7 0\n4 -8 0\n-3 -4 8 0\n7 0\n")
     && same (blockText m 3) (bytes "-1 3 0\n-2 4 0\n")
-    && every (λ b. eqb (blockRefusal m b 32768) 0) (range 0 4)
+    && every (λ b. eqb (blockRefusal m b (limits .block)) 0) (range 0 4)
     && reads (listing m) 8 17 clausesA
     && sameClauses (clauses m) clausesA
 
@@ -565,8 +566,8 @@ afterOutputs =
     let m = settled teams in
     settlesIn 2 teams
     && listsAs teams "p cnf 7 14\n1 2 -4 0\n-2 4 0\n1 -5 0\n-1 4 0\n2 -5 0\n-1 -2 5 0\n-5 0\n-1 -3 -6 0\n1 3 -6 0\n-1 3 6 0\n1 -3 6 0\n2 -7 0\n-2 7 0\n6 7 0\n"
-    && same (blockText m 3) (bytes "-1 -3 -6 0\n1 3 -6 0\n-1 3 6 0\n1 -3 6 0\n2 -7 0\n-2 7 0\n6 7 0\n")
-    && every (λ b. eqb (blockRefusal m b 32768) 0) (range 0 4)
+    && same (blockText m 2) (bytes "-1 -3 -6 0\n1 3 -6 0\n-1 3 6 0\n1 -3 6 0\n2 -7 0\n-2 7 0\n6 7 0\n")
+    && every (λ b. eqb (blockRefusal m b (limits .block)) 0) (range 0 3)
     && writesAs (modelOf teams) teams
 
 -- its four solutions filled; groups alike are none; read back, and with X of entrant 1 the other way or a team twice refused
@@ -677,3 +678,118 @@ oppositeTable = allAlike && alikeLater && notYet && oppositeWay && codeSeven
 pub opposites : T oppositeTable
 unfolding defs bytes same modelOf settled settlesIn isRefused closing closesAs settlesAs limitsAs fillsAs readsAs headA firstA secondA listsAs matching settlesWith oppositeWay notYet alike allAlike alikeLater codeSeven oppositeTable
 opposites = tt
+
+-- ---- sixty-four entrants (request 7): a block for each node; the most groups; a tree of 64; and entrant 64, the last bit of a word
+
+-- the first group's counter has three leaves and so two blocks, the second group has no counter and no block, the third's counter has two leaves
+trees : String
+trees = "   1   3   3   2\n   2   1   0   2   1   1   1\n   2   2   0   3   1   1   1\n   2   3   1   1   1   0   1\n   3   7   1   3\n   3   2   1   2\n"
+
+treesByBlock : List String
+treesByBlock =
+    "p cnf 18 39\n"
+    ∷ "2 3 -9 0\n-3 9 0\n2 -10 0\n-2 9 0\n3 -10 0\n-2 -3 10 0\n"
+    ∷ "1 9 -11 0\n-9 11 0\n1 10 -12 0\n-10 12 0\n1 -13 0\n-1 11 0\n9 -12 0\n-1 -9 12 0\n10 -13 0\n-1 -10 13 0\n-13 0\n"
+    ∷ "7 8 -14 0\n-8 14 0\n7 -15 0\n-7 14 0\n8 -15 0\n-7 -8 15 0\n14 0\n-15 0\n"
+    ∷ "-1 -7 -16 0\n1 7 -16 0\n-1 7 16 0\n1 -7 16 0\n2 -17 0\n-2 17 0\n-3 -8 -18 0\n3 8 -18 0\n-3 8 18 0\n3 -8 18 0\n16 17 18 0\n"
+    ∷ "-1 4 0\n-2 5 0\n-3 6 0\n"
+    ∷ []
+
+-- each block, all of them together, the block above them; a buffer of the root's length, and one a byte shorter
+blockByBlock : Bool
+blockByBlock =
+    let m = settled trees in
+    settlesIn 1 trees && eqb (blockCount m) 5
+    && pairwise same (map (blockText m) (range 0 6)) (map bytes treesByBlock)
+    && same (listing m) (each bytes treesByBlock)
+    && every (λ b. eqb (blockRefusal m b (limits .block)) 0) (range 0 6) && eqb (blockRefusal m 6 (limits .block)) 23
+    && eqb (blockRefusal m 2 100) 0 && eqb (blockRefusal m 2 99) 24
+
+-- nothing but the header: E settled has no counter and no line; nor has a tree of one leaf a block
+headerAlone : Bool
+headerAlone =
+    let m = settled sheetE in
+    eqb (blockCount m) 0 && eqb (blockRefusal m 0 (limits .block)) 0 && eqb (blockRefusal m 1 (limits .block)) 23
+    && eqb (length (totalizerBlocks 1 1 2 0 0)) 0
+
+-- a model whose groups are empty
+hollow : ℕ → ℕ → Model
+hollow n s = record { n = n; s = s; c = 0; groups = replicate s zeroGroup; constraints = [] }
+
+-- heads alone, where 5 at line 2 is a head that passes; and models
+mostGroups : Bool
+mostGroups =
+    readsAs ("   1  32 256   0\n" ∷ []) 5 2 && readsAs ("   1  33  96   0\n" ∷ []) 5 2 && readsAs ("   1  64  96   0\n" ∷ []) 5 2
+    && readsAs ("   1  32 257   0\n" ∷ []) 7 1 && readsAs ("   1  33  97   0\n" ∷ []) 7 1 && readsAs ("   1  64  97   0\n" ∷ []) 7 1
+    && readsAs ("   1  65   1   0\n" ∷ []) 7 1
+    && inRange (hollow 32 256) && inRange (hollow 33 96) && inRange (hollow 64 96)
+    && not (inRange (hollow 32 257)) && not (inRange (hollow 33 97)) && not (inRange (hollow 64 97)) && not (inRange (hollow 65 1))
+    && eqb (propagated (hollow 33 97) .refusal) 20 && eqb (blockRefusal (hollow 33 97) 0 (limits .block)) 20
+
+-- the model of a sheet that is written in pieces
+piecewise : List String → Model
+piecewise ls = readSheet (each bytes ls) .model
+
+-- 32 of 64 who are all open: the root's block has 2·33·33 − 2 clauses and 64 units
+half : List String
+half = "   1  64   1   0\n   2   1  32  32" ∷ replicate 64 "   1" ++ ("\n" ∷ [])
+
+treeOfSixtyFour : Bool
+treeOfSixtyFour =
+    let a = propagated (piecewise half) in
+    let m = a .model in
+    eqb (treeOutputCount 64) 384 && eqb (treeClauseCount 64) 4800
+    && readsAs half 0 0 && eqb (a .refusal) 0 && eqb (a .passes) 1
+    && same (headerText m) (bytes "p cnf 448 4864\n") && eqb (blockCount m) 63
+    && same (blockText m 1) (bytes "1 2 -65 0\n-2 65 0\n1 -66 0\n-1 65 0\n2 -66 0\n-1 -2 66 0\n")
+    && eqb (length (blockClauses m 63)) 2240
+    && eqb (blockRefusal m 64 (limits .block)) 23
+
+-- a group's line of 64 entrants: all before the marks, the mark of entrants 1 to 63, that of entrant 64
+ofSixtyFour : String → String → String → List String
+ofSixtyFour start others last = start ∷ replicate 63 others ++ (last ∷ "\n" ∷ [])
+
+-- entrant 64 fixed, barred and open among open ones; and among barred ones fixed, open and open. By the lines the third group fixes 64,
+-- since the first is within it; the fifth bars and the sixth fixes 64, the only one who can tell it from the group before
+lastEntrant : List String
+lastEntrant =
+    ("   1  64   6   3\n" ∷ [])
+    ++ ofSixtyFour "   2   1   0  64" "   1" "   2"
+    ++ ofSixtyFour "   2   2   0  64" "   1" "   0"
+    ++ ofSixtyFour "   2   3   0  64" "   1" "   1"
+    ++ ofSixtyFour "   2   4   0  64" "   0" "   2"
+    ++ ofSixtyFour "   2   5   0  64" "   0" "   1"
+    ++ ofSixtyFour "   2   6   0  64" "   0" "   1"
+    ++ ("   3   2   1   3\n" ∷ "   3   7   4   5\n" ∷ "   3   7   5   6\n" ∷ [])
+
+-- the fixed and the possible of each group
+marksAs : Model → List ℕ → List ℕ → Bool
+marksAs m fixed possible = same (map (λ g. g .fixed) (tableOf m)) fixed && same (map (λ g. g .possible) (tableOf m)) possible
+
+-- as words: entrant 64 alone, the others, all; read as written, written as read, settled
+lastBit : Bool
+lastBit =
+    let own : ℕ = 9223372036854775808 in
+    let others : ℕ = 9223372036854775807 in
+    let whole : ℕ = 18446744073709551615 in
+    let a = propagated (piecewise lastEntrant) in
+    readsAs lastEntrant 0 0
+    && marksAs (piecewise lastEntrant) (own ∷ 0 ∷ 0 ∷ own ∷ 0 ∷ 0 ∷ []) (whole ∷ others ∷ whole ∷ own ∷ own ∷ own ∷ [])
+    && same (sheetText (piecewise lastEntrant)) (each bytes lastEntrant)
+    && eqb (a .refusal) 0 && eqb (a .passes) 3
+    && marksAs (a .model) (own ∷ 0 ∷ own ∷ own ∷ 0 ∷ own ∷ []) (whole ∷ others ∷ whole ∷ own ∷ 0 ∷ own ∷ [])
+    && same (headerText (a .model)) (bytes "p cnf 189 63\n") && eqb (blockCount (a .model)) 3
+
+-- entrant 64 alone is open: read back, and filled
+readBack : Bool
+readBack =
+    let m = piecewise ("   1  64   1   0\n" ∷ ofSixtyFour "   2   1   0   1" "   0" "   1") in
+    isFixpoint m && closesAs m "v 1 0" 0 (9223372036854775808 ∷ []) && closesAs m "v -1 0" 0 (0 ∷ [])
+    && fillsAs m (9223372036854775808 ∷ []) 1 0 (1 ∷ []) && fillsAs m (4611686018427387904 ∷ []) 1 30 (7 ∷ [])
+
+pub wideTable : Bool
+wideTable = blockByBlock && headerAlone && mostGroups && treeOfSixtyFour && lastBit && readBack
+
+pub wides : T wideTable
+unfolding defs bytes same modelOf settled settlesIn closing closesAs sheetE fillsAs readsAs trees treesByBlock blockByBlock headerAlone hollow mostGroups piecewise half treeOfSixtyFour ofSixtyFour lastEntrant marksAs lastBit readBack wideTable
+wides = tt

@@ -12,7 +12,7 @@ use Rattle.model.specs.declared.Group.{Group}
 use Rattle.model.specs.declared.Model.{Model}
 use Rattle.model.specs.Lists.{every, pairwise, those, each, range, between}
 use Rattle.model.specs.Words.{size, inside}
-use Rattle.model.specs.Limits.{limits}
+use Rattle.model.specs.Limits.{limits, groupsFor}
 use Rattle.model.specs.Model.{tableOf, constraintsOf, groupInRange, constraintInRange, inRange}
 use Rattle.model.specs.Solution.{allowed, constraintTrue, isSolution, allTables, solutions}
 use Rattle.model.proofs.Lists.{and-left, and-right, All, pairwise-length}
@@ -84,7 +84,7 @@ unfolding isSolution solutions inRange tableOf
 solution-listed m r k d h =
     let a = and-left (pairwise allowed (take (m .s) (m .groups)) d) (every (constraintTrue d) (constraintsOf m)) h in
     let x = between 1 (limits .entrants) (m .n) in
-    let y = between 1 (limits .groups) (m .s) in
+    let y = between 1 (groupsFor (m .n)) (m .s) in
     let z = leb (m .c) (limits .constraints) in
     let t = every (groupInRange (m .n)) (take (m .s) (m .groups)) in
     let g = and-right (x && y && z) t (and-left (x && y && z && t) (every (constraintInRange (m .s)) (constraintsOf m)) r) in

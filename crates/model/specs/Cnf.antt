@@ -17,7 +17,7 @@ use Rattle.model.specs.Words.{less, size, has}
 use Rattle.model.specs.Clauses.{isDifference, memberClauses}
 use Rattle.model.specs.Model.{zeroConstraint, groupAt, memberAt, tableOf, constraintsOf}
 use Rattle.model.specs.Difference.{isApart}
-use Rattle.model.specs.Totalizer.{oppositeTerm, keep, totalizerClauses, treeClauseCount, treeOutputCount}
+use Rattle.model.specs.Totalizer.{oppositeTerm, keep, totalizerBlocks, treeClauseCount, treeOutputCount}
 
 -- ---- "A counter exists for a group with m open entrants, L = low less the fixed, U = high less the fixed, exactly when L > 0 or U < m."
 
@@ -80,12 +80,12 @@ firstDifference base m j = base + total (differenceCount (tableOf m)) (take (j -
 unfoldable pub variableCount : Model → ℕ
 variableCount m = tableVariables (tableOf m) + total (differenceCount (tableOf m)) (constraintsOf m)
 
--- ---- the clauses of a group's totalizer, "possibly empty"
+-- ---- the blocks of a group: "one block per tree node of size 2 or more, in tree order, the root's with the units; a group without a counter has none"
 
-unfoldable pub groupClauses : List Group → ℕ → List (List Literal)
-groupClauses t g =
+unfoldable pub groupBlocks : List Group → ℕ → List (List (List Literal))
+groupBlocks t g =
     let r = groupAt t g in
-    cond (counted r) (totalizerClauses (openCount r) (firstVariable t g) (firstOutput t g) (atLeast r) (atMost r)) []
+    cond (counted r) (totalizerBlocks (openCount r) (firstVariable t g) (firstOutput t g) (atLeast r) (atMost r)) []
 
 -- ---- the clauses of a constraint, "by entrant, then clause"
 
@@ -118,19 +118,27 @@ lastClause n x t c = cond (isOpenDifference t c) (keep (map (difference x t c) (
 unfoldable pub constraintClauses : ℕ → List Group → ℕ → Constraint → List (List Literal)
 constraintClauses n t x c = each (clausesAt x t c) (range 0 n) ++ lastClause n x t c
 
--- ---- "block g (1..s) is group g's counter ..; block s+j is line j"
+-- the block of line j
+unfoldable pub lineClauses : Model → ℕ → List (List Literal)
+lineClauses m j =
+    let t = tableOf m in
+    constraintClauses (m .n) t (firstDifference (1 + tableVariables t) m j) (getD (constraintsOf m) (j - 1) zeroConstraint)
+
+-- ---- the blocks after block 0: those of groups 1..s, then "Line blocks follow"
+
+unfoldable pub nodeBlocks : Model → List (List (List Literal))
+nodeBlocks m = each (groupBlocks (tableOf m)) (range 1 (m .s))
 
 unfoldable pub blockClauses : Model → ℕ → List (List Literal)
 blockClauses m b =
-    let t = tableOf m in
-    let x = firstDifference (1 + tableVariables t) m (b - m .s) in
-    let constraint = constraintClauses (m .n) t x (getD (constraintsOf m) (b - m .s - 1) zeroConstraint) in
-    let group = groupClauses t b in
-    cond (leb b (m .s)) group constraint
+    let k = length (nodeBlocks m) in
+    let own = getD (nodeBlocks m) (b - 1) [] in
+    let line = lineClauses m (b - k) in
+    cond (leb b k) own line
 
--- the blocks after block 0
+-- "23 is a block above this new total"
 unfoldable pub blockCount : Model → ℕ
-blockCount m = m .s + m .c
+blockCount m = length (nodeBlocks m) + m .c
 
 -- every clause of the listing, in order
 unfoldable pub clauses : Model → List (List Literal)

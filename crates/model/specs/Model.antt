@@ -11,7 +11,7 @@ use Rattle.model.specs.declared.Constraint.{Constraint}
 use Rattle.model.specs.declared.Model.{Model}
 use Rattle.model.specs.Lists.{every, between, distinct}
 use Rattle.model.specs.Words.{inside}
-use Rattle.model.specs.Limits.{limits}
+use Rattle.model.specs.Limits.{limits, groupsFor}
 use Rattle.model.specs.Clauses.{groupsOf}
 
 -- the all-zero model
@@ -81,5 +81,5 @@ constraintInRange s c = codeInRange (c .code) (c .count) && every (between 1 s) 
 -- refusal 20 is the opposite of this
 unfoldable pub inRange : Model → Bool
 inRange m =
-    between 1 (limits .entrants) (m .n) && between 1 (limits .groups) (m .s) && leb (m .c) (limits .constraints)
+    between 1 (limits .entrants) (m .n) && between 1 (groupsFor (m .n)) (m .s) && leb (m .c) (limits .constraints)
     && every (groupInRange (m .n)) (tableOf m) && every (constraintInRange (m .s)) (constraintsOf m)

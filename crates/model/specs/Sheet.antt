@@ -15,7 +15,7 @@ use Rattle.model.specs.declared.Field.the-variants.{Number, Blank, Bad}
 use Rattle.model.specs.declared.SheetRead.{SheetRead}
 use Rattle.model.specs.Lists.{every, between, distinct, range, stop}
 use Rattle.model.specs.Words.{wordWhere}
-use Rattle.model.specs.Limits.{limits}
+use Rattle.model.specs.Limits.{limits, groupsFor}
 use Rattle.model.specs.Clauses.{memberCount, groupsOf}
 use Rattle.model.specs.Model.{zeroModel, codeInRange}
 
@@ -121,14 +121,15 @@ formRefusal l =
     (stop (not (eqb (length l % 4) 0)) 3
     (stop (not (every (goodField l) (range 0 (length l / 4)))) 4 0))
 
--- ---- "Head, 4 fields: 1, n (entrants, 1 to 32), s (groups, 1 to 256), c (constraint lines, 0 to 256)."
+-- ---- "Head, 4 fields: 1, n (entrants, 1 to 32), s (groups, 1 to 256), c (constraint lines, 0 to 256)."; by request 7 "n goes to 64", and "With n above 32,
+-- s is at most 96, otherwise 7 in the head"
 
 unfoldable pub headRefusal : List ℕ → ℕ
 headRefusal l =
     stop (not (eqb (valueAt l 0) 1)) 5
     (stop (not (eqb (length l / 4) 4)) 6
     (stop (not (between 1 (limits .entrants) (valueAt l 1))) 7
-    (stop (not (between 1 (limits .groups) (valueAt l 2))) 7
+    (stop (not (between 1 (groupsFor (valueAt l 1)) (valueAt l 2))) 7
     (stop (not (leb (valueAt l 3) (limits .constraints))) 7 0))))
 
 unfoldable pub withHead : List ℕ → Model → Model

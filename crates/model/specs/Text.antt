@@ -11,7 +11,7 @@ use Rattle.model.specs.declared.Written.{Written}
 use Rattle.model.specs.declared.Written.the-variants.{Bytes, Refused}
 use Rattle.model.specs.Lists.{any, each, range, isEmpty, stop}
 use Rattle.model.specs.Propagate.{unsettledOr}
-use Rattle.model.specs.Cnf.{variableCount, blockCount, clauseCount, blockClauses}
+use Rattle.model.specs.Cnf.{variableCount, nodeBlocks, blockCount, clauseCount, blockClauses}
 
 -- ---- numbers
 
@@ -58,7 +58,7 @@ listing m = each (blockText m) (range 0 (blockCount m + 1))
 
 -- "29 a line clause without literals"
 unfoldable pub hasEmptyClause : Model → ℕ → Bool
-hasEmptyClause m b = ltb (m .s) b && any isEmpty (blockClauses m b)
+hasEmptyClause m b = ltb (length (nodeBlocks m)) b && any isEmpty (blockClauses m b)
 
 unfoldable pub blockRefusal : Model → ℕ → ℕ → ℕ
 blockRefusal m b room =

@@ -122,9 +122,6 @@ unfoldable pub nodes : Shape → ℕ → ℕ → List Node
 nodes leaf v o = []
 nodes (node l r) v o = nodes l v o ++ nodes r (v + leaves l) (o + outputs l) ++ (nodeOver l r v o ∷ [])
 
-unfoldable pub treeClauses : Shape → ℕ → ℕ → List (List Literal)
-treeClauses s v o = each nodeClauses (nodes s v o)
-
 -- "After the root's clauses: units N_1..N_L, then -N_(U+1)..-N_m", where N starts at `first`
 unfoldable pub unit : (ℕ → Literal) → ℕ → ℕ → List Literal
 unit sign first i = sign (first + i) ∷ []
@@ -132,8 +129,16 @@ unit sign first i = sign (first + i) ∷ []
 unfoldable pub unitClauses : ℕ → ℕ → ℕ → ℕ → List (List Literal)
 unitClauses first m L U = map (unit Pos first) (range 0 L) ++ map (unit Neg first) (range U (m - U))
 
-unfoldable pub totalizerClauses : ℕ → ℕ → ℕ → ℕ → ℕ → List (List Literal)
-totalizerClauses m v o L U = treeClauses (shape m) v o ++ unitClauses (rootOutput (shape m) v o) m L U
+-- ---- request 7: "A group's block becomes one block per tree node of size 2 or more, in tree order, the root's with the units"
+
+-- the blocks of a tree, the units after the root's clauses; a leaf has none
+unfoldable pub treeBlocks : Shape → ℕ → ℕ → List (List Literal) → List (List (List Literal))
+treeBlocks leaf v o units = []
+treeBlocks (node l r) v o units =
+    map nodeClauses (nodes l v o ++ nodes r (v + leaves l) (o + outputs l)) ++ ((nodeClauses (nodeOver l r v o) ++ units) ∷ [])
+
+unfoldable pub totalizerBlocks : ℕ → ℕ → ℕ → ℕ → ℕ → List (List (List Literal))
+totalizerBlocks m v o L U = treeBlocks (shape m) v o (unitClauses (rootOutput (shape m) v o) m L U)
 
 -- ---- "Tree clauses T(1) = 0, T(m) = T(left) + T(right) + 2(a+1)(b+1) - 2; outputs A(1) = 0, A(m) = m + A(left) + A(right)."
 

@@ -1,13 +1,13 @@
 // The model of a sheet: its types and its limits, and what each entry answers.
 // Everything above is built on this crate: its specs/ hold every definition of document 01.
 ghost use mathlib.Core.Path.{_≡_};
-ghost use Prim.Native.Nat.{min};
+ghost use Prim.Native.Nat.{_≤_, min};
 ghost use mathlib.Core.Bool.{cond};
 ghost use mathlib.Core.Option.{none};
 ghost use lib.Dec.{T, leb};
 ghost use lib.ListN.{length};
 ghost use Rattle.model.specs.Lists.{every};
-ghost use Rattle.model.specs.Limits.{limits};
+ghost use Rattle.model.specs.Limits.{limits, groupsFor};
 ghost use Rattle.model.specs.Words.{full};
 ghost use Rattle.model.specs.Sheet.{digitsAfter, shortNumber, digitsValue};
 ghost use Rattle.model.specs.Model.{zeroModel, constraintSized};
@@ -138,7 +138,9 @@ pub struct Combined {
 pub struct Limits {
     pub word: u32,
     pub entrants: u32,
+    pub narrow: u32,
     pub groups: usize,
+    pub wide: usize,
     pub constraints: usize,
     pub members: usize,
     pub sheet: usize,
@@ -149,9 +151,14 @@ pub struct Limits {
 impl Model {
     pub const WORD: u32 = 64;
 
-    pub const ENTRANTS: u32 = 32;
+    pub const ENTRANTS: u32 = 64;
+
+    // The most entrants with which a sheet may have GROUPS groups; with more it has at most WIDE.
+    pub const NARROW: u32 = 32;
 
     pub const GROUPS: usize = 256;
+
+    pub const WIDE: usize = 96;
 
     pub const CONSTRAINTS: usize = 256;
 
@@ -159,9 +166,9 @@ impl Model {
 
     pub const SHEET_BYTES: usize = 57873;
 
-    pub const BLOCK_BYTES: usize = 32768;
+    pub const BLOCK_BYTES: usize = 65536;
 
-    pub const VARIABLES: usize = 57344;
+    pub const VARIABLES: usize = 59392;
 
     pub fn limits() -> Limits
         ensures { λ r. ⌜ r ≡ limits ⌝ }
@@ -169,7 +176,9 @@ impl Model {
         Limits {
             word: Model::WORD,
             entrants: Model::ENTRANTS,
+            narrow: Model::NARROW,
             groups: Model::GROUPS,
+            wide: Model::WIDE,
             constraints: Model::CONSTRAINTS,
             members: Model::MEMBERS,
             sheet: Model::SHEET_BYTES,
@@ -207,6 +216,16 @@ impl Model {
 pub fn whole(groups: [Group; Model::GROUPS], constraints: [Constraint; Model::CONSTRAINTS])
     ensures { λ r. ⌜ (length groups ≡ limits .groups) × (length constraints ≡ limits .constraints) × T (every constraintSized constraints) ⌝ }
 {}
+
+// The most groups of a sheet of n entrants.
+pub fn groups_for(n: u32) -> usize
+    ensures { λ r. ⌜ (r ≡ groupsFor n) × (r ≤ limits .groups) ⌝ }
+{
+    if n <= Model::NARROW {
+        return Model::GROUPS;
+    }
+    Model::WIDE
+}
 
 // The entrants 1 to n as a word; as many as a word has fill it, which no shift gives.
 pub fn entrants(n: u32) -> u64

@@ -160,6 +160,7 @@ module _ (m : Model) (r : T (inRange m)) (t : List Group) (c : Candidate (constr
         entrants = q .entrants;
         some-group = q .some-group;
         groupCount = q .groupCount;
+        groupLimit = q .groupLimit;
         constraintCount = q .constraintCount;
         groups = rw table-is (ranges (m .n) t (tableOf m) sound-table (c .inside) (q .groups));
         constraints = q .constraints;
@@ -290,6 +291,7 @@ reordered-range m o h r =
       entrants = rw (h .entrants) at (q .entrants);
       some-group = rw (h .count) at (q .some-group);
       groupCount = rw (h .count) at (q .groupCount);
+      groupLimit = rw (h .entrants, h .count) at (q .groupLimit);
       constraintCount = rw (h .constraints) at (q .constraintCount);
       groups = rw (same-start m o h, h .entrants) at (q .groups);
       constraints = rw (h .count) at

@@ -2,6 +2,7 @@
 use mathlib.Core.Path.{_≡_, ap, _∙_, subst}
 use mathlib.Core.Logic.{⊎-elim}
 use Prim.Native.Nat.{ℕ, _^_, _≤_, _<_}
+use native.Mathlib.Nat.{le-trans}
 use native.Mathlib.Omega.{arith}
 use mathlib.Core.Bool.{_&&_}
 use lib.Dec.{T, leb, ltb, leb→le, le→leb, ltb→lt, lt→ltb}
@@ -12,12 +13,13 @@ use Rattle.model.specs.declared.Constraint.{Constraint}
 use Rattle.model.specs.declared.Model.{Model}
 use Rattle.model.specs.Lists.{every, between, distinct}
 use Rattle.model.specs.Words.{inside}
-use Rattle.model.specs.Limits.{limits}
+use Rattle.model.specs.Limits.{limits, groupsFor}
 use Rattle.model.specs.Clauses.{byEntrant, memberCount, groupsOf}
 use Rattle.model.specs.Model.{tableOf, constraintsOf, groupInRange, codeInRange, constraintInRange, inRange}
 use Rattle.model.proofs.Lists.{and-left, and-right, and-both, between-le, le-between, every-all, every-getD, all-imp, all-getD}
 use Rattle.model.proofs.Codes.{entrant-or-seven, member-bound}
 use Rattle.model.proofs.Words.{Sub, inside-sub, sub-inside}
+use Rattle.model.proofs.Width.{groups-for}
 
 -- ---- a group
 
@@ -107,6 +109,7 @@ pub record InRange (m : Model) : Type 0 where
   pub entrants : m .n ≤ limits .entrants
   pub some-group : 1 ≤ m .s
   pub groupCount : m .s ≤ limits .groups
+  pub groupLimit : m .s ≤ groupsFor (m .n)
   pub constraintCount : m .c ≤ limits .constraints
   pub groups : T (every (groupInRange (m .n)) (tableOf m))
   pub constraints : T (every (constraintInRange (m .s)) (constraintsOf m))
@@ -115,19 +118,20 @@ pub in-range : (m : Model) → T (inRange m) → InRange m
 unfolding inRange
 in-range m t =
     let a = between 1 (limits .entrants) (m .n) in
-    let b = between 1 (limits .groups) (m .s) in
+    let b = between 1 (groupsFor (m .n)) (m .s) in
     let c = leb (m .c) (limits .constraints) in
     let d = every (groupInRange (m .n)) (tableOf m) in
     let e = every (constraintInRange (m .s)) (constraintsOf m) in
     let abcd = and-left (a && b && c && d) e t in
     let abc = and-left (a && b && c) d abcd in
     let n = between-le 1 (limits .entrants) (m .n) (and-left a b (and-left (a && b) c abc)) in
-    let s = between-le 1 (limits .groups) (m .s) (and-right a b (and-left (a && b) c abc)) in
+    let s = between-le 1 (groupsFor (m .n)) (m .s) (and-right a b (and-left (a && b) c abc)) in
     record {
       some-entrant = n .0;
       entrants = n .1;
       some-group = s .0;
-      groupCount = s .1;
+      groupCount = le-trans (s .1) (groups-for (m .n));
+      groupLimit = s .1;
       constraintCount = leb→le (m .c) (limits .constraints) (and-right (a && b) c abc);
       groups = and-right (a && b && c) d abcd;
       constraints = and-right (a && b && c && d) e t;
@@ -137,13 +141,13 @@ pub is-in-range : (m : Model) → InRange m → T (inRange m)
 unfolding inRange
 is-in-range m r =
     let a = between 1 (limits .entrants) (m .n) in
-    let b = between 1 (limits .groups) (m .s) in
+    let b = between 1 (groupsFor (m .n)) (m .s) in
     let c = leb (m .c) (limits .constraints) in
     let d = every (groupInRange (m .n)) (tableOf m) in
     and-both (a && b && c && d) (every (constraintInRange (m .s)) (constraintsOf m))
     (and-both (a && b && c) d
     (and-both (a && b) c
-    (and-both a b (le-between 1 (limits .entrants) (m .n) (r .some-entrant) (r .entrants)) (le-between 1 (limits .groups) (m .s) (r .some-group) (r .groupCount)))
+    (and-both a b (le-between 1 (limits .entrants) (m .n) (r .some-entrant) (r .entrants)) (le-between 1 (groupsFor (m .n)) (m .s) (r .some-group) (r .groupLimit)))
     (le→leb (m .c) (limits .constraints) (r .constraintCount)))
     (r .groups))
     (r .constraints)

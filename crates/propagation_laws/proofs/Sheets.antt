@@ -2,7 +2,7 @@
 -- order. Assumes nothing.
 use mathlib.Core.Path.{_≡_, refl, sym, ap, ap₂, _∙_, subst}
 use Prim.Native.Nat.{ℕ, zero, suc, _+_, _-_, _/_, _≤_, _<_}
-use native.Mathlib.Nat.{add-zero}
+use native.Mathlib.Nat.{add-zero, le-trans}
 use native.Mathlib.Numerals.{add-one}
 use native.Mathlib.Omega.{arith}
 use mathlib.Core.Bool.{Bool, true, false, cond, not, _&&_}
@@ -16,7 +16,7 @@ use Rattle.model.specs.declared.Constraint.{Constraint}
 use Rattle.model.specs.declared.Model.{Model}
 use Rattle.model.specs.declared.SheetRead.{SheetRead}
 use Rattle.model.specs.Lists.{every, between, distinct, range, total, stop}
-use Rattle.model.specs.Limits.{limits}
+use Rattle.model.specs.Limits.{limits, groupsFor}
 use Rattle.model.specs.Clauses.{groupsOf}
 use Rattle.model.specs.Model.{zeroGroup, zeroConstraint, zeroModel, tableOf, constraintsOf, Sized, membersSized, groupInRange, codeInRange, constraintInRange, inRange}
 use Rattle.model.specs.Sheet.{linesOf, valueAt, formRefusal, headRefusal, withHead, markAt, groupRefusal, groupFrom, withGroup, groupCount, firstGroup, countFrom, constraintFrom, constraintRefusal, withConstraint, lineRefusal, withLine, refusedSheet, afterLast, readLines, readSheet}
@@ -24,6 +24,7 @@ use Rattle.model.specs.Propagate.{propagated}
 use Rattle.model.specs.Demand.{Accepted, OrderOf}
 use Rattle.model.proofs.Lists.{T-true, true-T, and-right, and-both, between-le, total-append, range-length, All, all-perm, all-map, all-every, perm-total, perm-length, take-sets}
 use Rattle.model.proofs.Words.{where-lt, where-sub}
+use Rattle.model.proofs.Width.{groups-for}
 use Rattle.propagation_laws.proofs.Ranges.{is-group-range, constraint-code, is-in-range}
 use Rattle.model.proofs.Codes.{member-bound}
 use Rattle.propagation_laws.proofs.Propagation.{Reordered, Propagation, propagation}
@@ -46,7 +47,7 @@ passed-form f rest e = go (eqb f 0) refl e
 
 record Head (l : List ℕ) : Type 0 where
   entrants : T (between 1 (limits .entrants) (valueAt l 1))
-  groups : T (between 1 (limits .groups) (valueAt l 2))
+  groups : T (between 1 (groupsFor (valueAt l 1)) (valueAt l 2))
   constraints : T (leb (valueAt l 3) (limits .constraints))
 
 head-good : (l : List ℕ) → headRefusal l ≡ 0 → Head l
@@ -55,7 +56,7 @@ head-good l e =
     let a = passed (eqb (valueAt l 0) 1) 4 _ e in
     let b = passed (eqb (length l / 4) 4) 5 _ (a .1) in
     let c = passed (between 1 (limits .entrants) (valueAt l 1)) 6 _ (b .1) in
-    let d = passed (between 1 (limits .groups) (valueAt l 2)) 6 _ (c .1) in
+    let d = passed (between 1 (groupsFor (valueAt l 1)) (valueAt l 2)) 6 _ (c .1) in
     let f = passed (leb (valueAt l 3) (limits .constraints)) 6 _ (d .1) in
     record { entrants = c .0; groups = d .0; constraints = f .0 }
 
@@ -253,7 +254,7 @@ record Parts (ls : List (List ℕ)) (m : Model) : Type 0 where
   -- the model after the head and the group lines
   start : Model
   entrants : T (between 1 (limits .entrants) (start .n))
-  groups : T (between 1 (limits .groups) (start .s))
+  groups : T (between 1 (groupsFor (start .n)) (start .s))
   constraints : T (leb (start .c) (limits .constraints))
   table : T (every (groupInRange (start .n)) (tableOf start))
   wide : length (start .groups) ≡ limits .groups
@@ -276,7 +277,7 @@ parts (l ∷ ls) m e =
     let g = group-part s 0 ls q0 m (omega arith) (a .1) in
     let vs = map (groupFrom (q0 .n)) (take s ls) in
     let q = inGroups q0 (sets (q0 .groups) 0 vs) in
-    let top : s ≤ limits .groups = leb→le s (limits .groups) (and-right (leb 1 s) (leb s (limits .groups)) (h .groups)) in
+    let top : s ≤ limits .groups = le-trans (leb→le s (groupsFor (q0 .n)) (and-right (leb 1 s) (leb s (groupsFor (q0 .n))) (h .groups))) (groups-for (q0 .n)) in
     let long : length vs ≡ s = length-map (take s ls) (groupFrom (q0 .n)) ∙ lib.Seq.length-take-le s ls (g .enough) in
     let reads : (x : List (List ℕ)) → readLines (take (suc s) (l ∷ ls) ++ x) 0 zeroModel ≡ readLines x (suc (s + 0)) q =
     λ x. read-cons l (take s ls ++ x) 0 zeroModel (a .0) ∙ g .reads x
@@ -340,18 +341,19 @@ module _ (ls : List (List ℕ)) (m : Model) (p : Parts ls m) where
     unfolding whole
     made-accurate =
         let n = between-le 1 (limits .entrants) (q .n) (p .entrants) in
-        let s = between-le 1 (limits .groups) (q .s) (p .groups) in
+        let s = between-le 1 (groupsFor (q .n)) (q .s) (p .groups) in
         record {
           in-range = is-in-range made (record {
             some-entrant = n .0;
             entrants = n .1;
             some-group = s .0;
-            groupCount = s .1;
+            groupCount = le-trans (s .1) (groups-for (q .n));
+            groupLimit = s .1;
             constraintCount = leb→le (q .c) (limits .constraints) (p .constraints);
             groups = unfold tableOf in p .table;
             constraints = rw made-constraints (good-constraints (q .s) xs good);
           });
-          sized = record { groups = omega (arith, s .1, p .wide); constraints = omega (arith, room, length-sets (q .constraints) 0 (map constraintFrom xs)) };
+          sized = record { groups = omega (arith, s .1, groups-for (q .n), p .wide); constraints = omega (arith, room, length-sets (q .constraints) 0 (map constraintFrom xs)) };
           members = rw made-constraints (whole-constraints (q .s) xs good);
         }
 

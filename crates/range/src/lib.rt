@@ -182,7 +182,7 @@ pub fn in_range(m: Model) -> bool
     if m.s < 1 {
         return false;
     }
-    if Model::GROUPS < m.s as usize {
+    if model::groups_for(m.n) < m.s as usize {
         return false;
     }
     if Model::CONSTRAINTS < m.c as usize {

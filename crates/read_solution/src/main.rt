@@ -15,7 +15,7 @@ use model::Reading;
 use model::Written;
 use report::Message;
 
-// The longest line that is read. A `v` line that says each of a listing's variables once has less than 400,000 bytes.
+// The longest line that is read. A `v` line that says each of a listing's variables once has less than 410,000 bytes.
 const LONGEST: usize = 1048576;
 
 // What cannot be written is reported.

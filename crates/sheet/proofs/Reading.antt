@@ -1,6 +1,7 @@
 -- Reading line by line: what a line that is not refused tells, and what the loop keeps. Assumes nothing.
 use mathlib.Core.Path.{_≡_, refl, sym, ap, ap₂, _∙_, subst}
 use Prim.Native.Nat.{ℕ, suc, _+_, _-_, _/_, _≤_, _<_, min}
+use native.Mathlib.Nat.{le-trans}
 use native.Mathlib.Omega.{arith}
 use native.Mathlib.Numerals.{add-one}
 use mathlib.Core.Bool.{Bool, true, false, cond, not}
@@ -13,10 +14,11 @@ use Rattle.model.specs.declared.Group.{Group}
 use Rattle.model.specs.declared.Constraint.{Constraint}
 use Rattle.model.specs.declared.Model.{Model}
 use Rattle.model.specs.Lists.{stop, between}
-use Rattle.model.specs.Limits.{limits}
+use Rattle.model.specs.Limits.{limits, groupsFor}
 use Rattle.model.specs.Model.{zeroModel, codeInRange}
 use Rattle.model.specs.Sheet.{onFirst, linesOf, valueAt, formRefusal, headRefusal, withHead, groupFrom, withGroup, countFrom, groupCount, constraintFrom, constraintRefusal, withConstraint, lineRefusal, withLine, refusedSheet, afterLast, readLines}
 use Rattle.model.proofs.Lists.{between-le, true-T}
+use Rattle.model.proofs.Width.{groups-for}
 use Rattle.model.proofs.Codes.{member-bound}
 use Rattle.sheet.specs.Line.{lineLength}
 use Rattle.sheet.proofs.Laws.{rest}
@@ -105,10 +107,10 @@ module _ (n s c : ℕ) (l : List ℕ) where
       let a = passed (eqb (valueAt l 0) 1) 4 _ (head-told e) in
       let b = passed (eqb (length l / 4) 4) 5 _ (a .1) in
       let d = passed (between 1 (limits .entrants) (valueAt l 1)) 6 _ (b .1) in
-      let f = passed (between 1 (limits .groups) (valueAt l 2)) 6 _ (d .1) in
+      let f = passed (between 1 (groupsFor (valueAt l 1)) (valueAt l 2)) 6 _ (d .1) in
       let g = passed (leb (valueAt l 3) (limits .constraints)) 6 _ (f .1) in (
         between-le 1 (limits .entrants) (valueAt l 1) (true-T _ (d .0)) .1,
-        (between-le 1 (limits .groups) (valueAt l 2) (true-T _ (f .0)) .1, leb-true (valueAt l 3) (limits .constraints) (g .0)),
+        (le-trans (between-le 1 (groupsFor (valueAt l 1)) (valueAt l 2) (true-T _ (f .0)) .1) (groups-for (valueAt l 1)), leb-true (valueAt l 3) (limits .constraints) (g .0)),
       )
 
   constraint-told : (done : ℕ) → lineRefusal n s c done l ≡ 0 → (done ≡ 0 → ⊥) → s < done → (done ≤ s + c) × (constraintRefusal s l ≡ 0)

@@ -153,7 +153,7 @@ fn head_refusal(line: &[u8]) -> u32
     if s < 1 {
         return 7;
     }
-    if Model::GROUPS < s as usize {
+    if model::groups_for(n) < s as usize {
         return 7;
     }
     if Model::CONSTRAINTS < value(line, 3) as usize {

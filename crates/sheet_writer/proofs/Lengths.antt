@@ -2,8 +2,9 @@
 -- Assumes nothing.
 use mathlib.Core.Path.{_≡_, refl, sym, ap, ap₂, _∙_}
 use Prim.Native.Nat.{ℕ, _+_, _-_, _*_, _≤_}
-use native.Mathlib.Nat.{mul-le-mul-left}
+use native.Mathlib.Nat.{mul-le-mul}
 use native.Mathlib.Omega.{arith}
+use native.Mathlib.Decide.{decLe}
 use mathlib.Core.Bool.{cond}
 use mathlib.Core.List.{List, [], _∷_, _++_, map, append-assoc}
 use lib.Dec.{T, eqb}
@@ -19,6 +20,7 @@ use Rattle.model.specs.Text.{fieldText}
 use Rattle.model.specs.SheetText.{headFields, groupFields, constraintFields, sheetFields, lineText, sheetText}
 use Rattle.model.proofs.Lists.{every-all, All, all-getD, all-imp, all-append, all-map, range-all, each-append, each-map, length-each, total-const, total-le}
 use Rattle.model.proofs.Words.{sub-refl}
+use Rattle.model.proofs.Width.{groups-wide}
 use Rattle.propagation_laws.proofs.Ranges.{GroupRange, InRange, in-range, group-range, is-group-range}
 use Rattle.sheet_writer.specs.Parts.{groupText, constraintText, lineLength}
 use Rattle.sheet_writer.proofs.Fields.{Short, row-length}
@@ -118,9 +120,19 @@ module _ (m : Model) (r : InRange m) where
       (every-all (constraintInRange (m .s)) (constraintsOf m) (r .constraints))) in
       omega (arith, length-each constraintText (constraintsOf m), sum, length-take (m .c) (m .constraints))
 
+-- the lines of groups: 256 of them with 32 marks are longer than 96 with 64
+pub groups-bound : (m : Model) → InRange m → m .s * lineLength (4 + m .n) ≤ limits .groups * lineLength (4 + limits .narrow)
+groups-bound m r = go (decLe (m .n) (limits .narrow))
+  where
+    go : Dec (m .n ≤ limits .narrow) → m .s * lineLength (4 + m .n) ≤ limits .groups * lineLength (4 + limits .narrow)
+    go (yes h) = mul-le-mul {n₂ = limits .groups} {m₂ = lineLength (4 + limits .narrow)} (r .groupCount) (omega arith)
+    go (no h) =
+        let few : m .s ≤ limits .wide = omega (arith, r .groupLimit, groups-wide (m .n) (omega arith)) in
+        let g : m .s * lineLength (4 + m .n) ≤ limits .wide * lineLength (4 + limits .entrants) = mul-le-mul {n₂ = limits .wide} {m₂ = lineLength (4 + limits .entrants)} few (omega (arith, r .entrants)) in
+        omega (arith, g)
+
 -- "The longest sheet has 57,873 bytes."
 pub sheet-bound : (m : Model) → T (inRange m) → length (sheetText m) ≤ limits .sheet
 sheet-bound m t =
     let r = in-range m t in
-    let g : m .s * lineLength (4 + m .n) ≤ m .s * 145 = mul-le-mul-left (m .s) (omega (arith, r .entrants)) in
-    omega (arith, sheet-length m r, g, constraints-bound m r, r .groupCount, r .constraintCount)
+    omega (arith, sheet-length m r, groups-bound m r, constraints-bound m r, r .constraintCount)

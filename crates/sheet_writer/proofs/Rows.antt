@@ -14,7 +14,7 @@ use Rattle.model.specs.declared.Constraint.{Constraint}
 use Rattle.model.specs.declared.Model.{Model}
 use Rattle.model.specs.Lists.{every, each, between, distinct, range}
 use Rattle.model.specs.Words.{has, wordWhere}
-use Rattle.model.specs.Limits.{limits}
+use Rattle.model.specs.Limits.{limits, groupsFor}
 use Rattle.model.specs.Clauses.{memberCount, groupsOf}
 use Rattle.model.specs.Model.{codeInRange, constraintInRange}
 use Rattle.model.specs.Sheet.{valueAt, formRefusal, headRefusal, withHead, markAt, groupRefusal, groupFrom, firstGroup, countFrom, groupCount, constraintFrom, constraintRefusal}
@@ -49,7 +49,7 @@ module _ (m : Model) (r : InRange m) where
         v 3,
         row-fields (headFields m) head-short,
         T-true (between 1 (limits .entrants) (m .n)) (le-between 1 (limits .entrants) (m .n) (r .some-entrant) (r .entrants)),
-        T-true (between 1 (limits .groups) (m .s)) (le-between 1 (limits .groups) (m .s) (r .some-group) (r .groupCount)),
+        T-true (between 1 (groupsFor (m .n)) (m .s)) (le-between 1 (groupsFor (m .n)) (m .s) (r .some-group) (r .groupLimit)),
         le-leb (m .c) (limits .constraints) (r .constraintCount),
       )
 

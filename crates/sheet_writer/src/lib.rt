@@ -19,7 +19,7 @@ use model::Written;
 
 // ---- measuring
 
-// Four bytes a field, and byte 10. No line has more fields than one of 17 groups or 32 marks.
+// Four bytes a field, and byte 10. No line has more fields than that of a group with 64 marks.
 fn line_length(fields: usize) -> usize
     requires { ⌜ fields ≤ limits .entrants + 4 ⌝ }
     ensures { λ r. ⌜ r ≡ lineLength fields ⌝ }

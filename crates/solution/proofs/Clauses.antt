@@ -5,6 +5,7 @@ use mathlib.Core.Bool.{Bool, true, false, cond, not, _&&_, _||_}
 use mathlib.Core.List.{List, [], _++_, map}
 use Prim.Native.Nat.{ℕ, _+_, _-_, _≤_, _<_}
 use native.Mathlib.Omega.{arith}
+use borrow.Author.Tests.{le-leb, lt-leb}
 use lib.Dec.{T, leb, eqb, le→leb, leb→le}
 use lib.ListN.{length, getD, take, replicate, List·getD-append}
 use Rattle.model.specs.declared.Group.{Group}
@@ -17,20 +18,22 @@ use Rattle.model.specs.Clauses.{byEntrant, memberCount, memberClauses, isDiffer
 use Rattle.model.specs.Model.{zeroGroup, zeroConstraint, groupAt, tableOf, constraintsOf, constraintSized, membersSized, constraintInRange}
 use Rattle.model.specs.Difference.{isApart}
 use Rattle.model.specs.Propagate.{Settled}
-use Rattle.model.specs.Totalizer.{shape, treeClauses, totalizerClauses}
-use Rattle.model.specs.Cnf.{openOf, openCount, atLeast, atMost, counted, firstVariable, variableOf, tableVariables, differing, differenceCount, firstDifference, groupClauses, membership, constraintClauses, blockClauses, blockCount, clauses}
+use Rattle.model.specs.Totalizer.{shape}
+use Rattle.model.specs.Cnf.{openOf, openCount, atLeast, atMost, counted, firstVariable, variableOf, tableVariables, differing, differenceCount, firstDifference, membership, constraintClauses, lineClauses}
 use Rattle.model.specs.Solution.{setOf}
 use Rattle.model.specs.Close.{truth, termTrue, clauseTrue, satisfying, groupBy, groupsBy, closedGroups}
 use Rattle.model.specs.Fill.{count, oneOf, memberSet}
 use Rattle.model.proofs.Words.{bit-zero, bit-less, bit-ext, has-where, word-ext}
 use Rattle.model.proofs.Lists.{T-ext, T-true, and-left, and-right, and-both, between-le, every-append, every-each, every-map, every-getD, every-range-ext, range-append, All, all-place, values-make, values-length, getD-map-range}
 use Rattle.model.proofs.Codes.{entrant-or-seven}
+use Rattle.encoding_laws.specs.Division.{treeClauses, totalizerClauses, groupClauses, clausesByGroup}
 use Rattle.propagation_laws.proofs.Ranges.{in-range, constraint-code, member-below}
 use Rattle.propagation_laws.proofs.Meaning.{clausesFor}
 use Rattle.encoding_laws.proofs.Truth.{allTrue}
 use Rattle.encoding_laws.proofs.Tree.{count-le, valuesFrom, tree-iff}
 use Rattle.encoding_laws.proofs.Totalizer.{totalizer-iff}
-use Rattle.encoding_laws.proofs.Groups.{table-length, constraints-length, group-block, constraint-block}
+use Rattle.encoding_laws.proofs.Groups.{table-length, constraints-length}
+use Rattle.encoding_laws.proofs.Blocks.{by-group-parts}
 use Rattle.encoding_laws.proofs.Fixpoint.{SettledAmong, table-settled}
 use Rattle.encoding_laws.proofs.Row.{inRow, rowWord, row-size}
 use Rattle.encoding_laws.proofs.Differences.{six-difference, is-difference, differenceWord}
@@ -185,27 +188,27 @@ module _ (m : Model) (a : List Bool) (q : Settled m) where
       (word-in m a (g - 1) (omega arith) ∙ ap (groupBy m a) e ∙ sym (word-by m a g)))
 
   constraint-at : T (membersSized m) → (i : ℕ) → i < m .c
-      → allTrue a (blockClauses m (1 + m .s + i)) ≡ constraintHoldsAt a (tableOf m) (constraintsOf m) (closedGroups m a) (m .n) (0 + i)
-  unfolding constraintHoldsAt firstDifference
+      → allTrue a (lineClauses m (1 + m .s + i - m .s)) ≡ constraintHoldsAt a (tableOf m) (constraintsOf m) (closedGroups m a) (m .n) (0 + i)
+  unfolding lineClauses constraintHoldsAt firstDifference
   constraint-at wide i h =
       let t = tableOf m in
       let cs = constraintsOf m in
       let r = in-range m (q .in-range) in
       let l : 0 + i < length cs = omega (arith, constraints-length m (q .sized)) in
       let at : ℕ → Bool = λ k. allTrue a (constraintClauses (m .n) t (1 + tableVariables t + total (differenceCount t) (take k cs)) (getD cs k zeroConstraint)) in
-      ap (allTrue a) (constraint-block m (q .sized) (1 + m .s + i) (omega arith))
-      ∙ ap at {x = 1 + m .s + i - m .s - 1} {y = 0 + i} (omega arith)
+      ap at {x = 1 + m .s + i - m .s - 1} {y = 0 + i} (omega arith)
       ∙ constraint-true m a (r .some-group) (table-settled m q) _ (getD cs (0 + i) zeroConstraint)
       (every-getD (constraintInRange (m .s)) cs zeroConstraint (0 + i) (r .constraints) l) (every-getD constraintSized cs zeroConstraint (0 + i) wide l)
 
   pub satisfying-is : T (membersSized m) → satisfying m a ≡ clausesHold a (tableOf m) (constraintsOf m) (closedGroups m a) (m .n) (m .s) (m .c)
-  unfolding satisfying clausesHold clauses blockCount
+  unfolding satisfying clausesHold clausesByGroup
   satisfying-is wide =
-      let at : ℕ → Bool = λ b. allTrue a (blockClauses m b) in
-      every-each (clauseTrue a) (blockClauses m) (range 1 (m .s + m .c))
+      let at : ℕ → Bool = λ b. allTrue a (clausesByGroup m b) in
+      ap (allTrue a) (sym (by-group-parts m q))
+      ∙ every-each (clauseTrue a) (clausesByGroup m) (range 1 (m .s + m .c))
       ∙ ap (every at) (range-append 1 (m .s) (m .c))
       ∙ every-append at (range 1 (m .s)) (range (1 + m .s) (m .c))
       ∙ ap₂ (λ (x y : Bool). x && y)
-      (every-range-ext at (groupHoldsAt a (tableOf m) (closedGroups m a)) 1 (m .s)
-      (λ g h k. ap (allTrue a) (group-block m (q .sized) g (omega arith)) ∙ group-at g h (omega arith)))
-      (every-from at (constraintHoldsAt a (tableOf m) (constraintsOf m) (closedGroups m a) (m .n)) (1 + m .s) 0 (m .c) (constraint-at wide))
+      (every-range-ext at (groupHoldsAt a (tableOf m) (closedGroups m a)) 1 (m .s) (λ g h k. rw (le-leb g (m .s) (omega arith)) (group-at g h (omega arith))))
+      (every-from at (constraintHoldsAt a (tableOf m) (constraintsOf m) (closedGroups m a) (m .n)) (1 + m .s) 0 (m .c)
+      (λ i h. rw (lt-leb (1 + m .s + i) (m .s) (omega arith)) (constraint-at wide i h)))

@@ -12,12 +12,13 @@ use Rattle.model.specs.declared.Group.{Group}
 use Rattle.model.specs.Lists.{every, range}
 use Rattle.model.specs.Limits.{limits}
 use Rattle.model.specs.Model.{zeroGroup, groupAt}
-use Rattle.model.specs.Totalizer.{shape, treeClauses}
+use Rattle.model.specs.Totalizer.{shape}
 use Rattle.model.specs.Cnf.{openCount, counted, firstVariable, firstOutput}
 use Rattle.model.specs.Solution.{setOf}
 use Rattle.model.proofs.Words.{size-ones}
 use Rattle.model.proofs.Lists.{values-append, values-length}
 use Rattle.model.proofs.Loops.{range-goes, range-stops, range-done}
+use Rattle.encoding_laws.specs.Division.{treeClauses}
 use Rattle.encoding_laws.proofs.Truth.{allTrue}
 use Rattle.solution.specs.Holds.{wordOf, wordAt, tableWords, groupHolds, groupHoldsAt}
 

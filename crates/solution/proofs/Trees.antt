@@ -7,7 +7,7 @@ use Prim.Native.Nat.{ℕ, zero, suc, _+_, _-_, _/_, _≤_, _<_}
 use native.Mathlib.Omega.{arith}
 use lib.Dec.{T, leb, ltb}
 use Rattle.model.specs.Lists.{total, range}
-use Rattle.model.specs.Totalizer.{Shape, node, shape, leaves, outputs, nodes, treeClauses, treeOutputCount}
+use Rattle.model.specs.Totalizer.{Shape, node, shape, leaves, outputs, nodes, treeOutputCount}
 use Rattle.model.specs.Close.{truth}
 use Rattle.model.specs.Fill.{count}
 use Rattle.model.proofs.Lists.{T-ext, beq-refl, beq-eq, every-range, range-every}
@@ -17,6 +17,7 @@ use Rattle.encoding_laws.proofs.Tree.{valuesFrom, trues, trues-add, parts, tree
 use Rattle.encoding_laws.proofs.Totalizer.{leaves-shape, shape-one, shape-step}
 use Rattle.encoding_laws.proofs.Counts.{outputs-count, output-count-step}
 use Rattle.model.specs.Limits.{limits}
+use Rattle.encoding_laws.specs.Division.{treeClauses}
 use Rattle.numbering.proofs.Totalizers.{within-word}
 use Rattle.solution.specs.Holds.{trueCount, outputIs, countsTo}
 

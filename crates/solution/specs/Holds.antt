@@ -13,11 +13,12 @@ use Rattle.model.specs.Limits.{limits}
 use Rattle.model.specs.Clauses.{memberClauses, isDifference}
 use Rattle.model.specs.Model.{zeroConstraint, groupAt}
 use Rattle.model.specs.Difference.{isApart}
-use Rattle.model.specs.Totalizer.{shape, treeClauses}
+use Rattle.model.specs.Totalizer.{shape}
 use Rattle.model.specs.Cnf.{openOf, openCount, counted, firstVariable, firstOutput, tableVariables, differing, differenceCount}
 use Rattle.model.specs.Solution.{setOf}
 use Rattle.model.specs.Close.{truth, clauseTrue}
 use Rattle.model.specs.Fill.{oneOf, memberSet}
+use Rattle.encoding_laws.specs.Division.{treeClauses}
 use Rattle.constraint_clauses.specs.Holds.{clauseHolds}
 
 -- ---- a group's word

@@ -5,10 +5,11 @@ ghost use Prim.Native.Nat.{_+_, _^_, _≤_, _<_};
 ghost use lib.ListN.{length, take};
 ghost use Rattle.model.specs.Lists.{every, range};
 ghost use Rattle.model.specs.Limits.{limits};
-ghost use Rattle.model.specs.Totalizer.{shape, treeClauses, treeOutputCount};
+ghost use Rattle.model.specs.Totalizer.{shape, treeOutputCount};
 ghost use Rattle.model.specs.Close.{truth, clauseTrue, assignmentOf};
 ghost use Rattle.numbering.specs.Numbering.{firstVariables, firstOutputs};
 ghost use Rattle.solution.specs.Holds.{inGroup, wordOf, tableWords, trueCount, countsTo, groupHolds, groupHoldsAt};
+ghost use Rattle.encoding_laws.specs.Division.{treeClauses};
 use model::Group;
 use model::Model;
 

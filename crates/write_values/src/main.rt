@@ -1,5 +1,6 @@
 // Writes a draw as the assignment that a solver may start from: the sheet is the file that argument 1 names, the groups come on standard input.
 ghost use mathlib.Core.Path.{_≡_};
+ghost use Prim.Native.Nat.{_+_, _*_};
 ghost use lib.ListN.{length};
 ghost use Rattle.model.specs.Limits.{limits};
 ghost use Rattle.report.specs.Messages.{Counted};
@@ -13,8 +14,8 @@ use report::Message;
 // The most bytes of the groups' text. As it is printed it has less.
 const GROUPS_BYTES: usize = 65536;
 
-// Room for the assignment's text: each variable has less than ten bytes.
-const TEXT_BYTES: usize = 524288;
+// Room for the assignment's text: each variable has at most nine bytes, with the newline and `v` that may stand before it; six more begin and end it.
+const TEXT_BYTES: usize = 9 * Model::VARIABLES + 6;
 
 // What cannot be written is reported.
 fn write(fd: i32, text: &[u8]) {
@@ -33,7 +34,7 @@ fn say(fd: i32, m: Message)
 
 // Only its length is told: the list of its zeros is too long for the prover to look at.
 fn room() -> [u8; TEXT_BYTES]
-    ensures { λ r. ⌜ length r ≡ 524288 ⌝ }
+    ensures { λ r. ⌜ length r ≡ 9 * limits .variables + 6 ⌝ }
 {
     [0; TEXT_BYTES]
 }

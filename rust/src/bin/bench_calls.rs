@@ -1,7 +1,8 @@
-//! `bench_calls TITLE SHEET ANSWER RUNS`: the calls of the static library beside this crate's, in one process; prints rows of a table in microseconds, the last a ratio.
+//! `bench_calls TITLE SHEET ANSWER RUNS`: the calls of the static library beside this crate's, in one process; prints rows of a table in microseconds, the last two nanoseconds a byte and a ratio.
 use counterpart::compare::blanks::rewritten;
 use counterpart::compare::calls::{settled, Calls, Counterpart};
 use counterpart::encode::Encoding;
+use counterpart::listing::listing;
 use counterpart::sheet::{read as read_model, write as write_model};
 use std::hint::black_box;
 use std::time::Instant;
@@ -14,6 +15,9 @@ struct Input {
     bare: Vec<u8>,
     answer: Vec<u8>,
     variables: usize,
+    /// The listing's last block, and its bytes.
+    last: u64,
+    length: usize,
     /// The marks that the answer says.
     marks: Vec<u8>,
     /// The groups that closing gives for them.
@@ -22,11 +26,12 @@ struct Input {
 
 type Work = fn(&dyn Calls, &Input);
 
-const STEPS: [(&str, Work); 7] = [
+const STEPS: [(&str, Work); 8] = [
     ("read", read),
     ("read, open marks blank", read_blank),
     ("read two, combine and write", combine),
     ("read and settle", settle),
+    ("read, settle and list", list),
     ("solver lines", lines),
     ("read, settle and close", close),
     ("read, settle and fill", fill),
@@ -47,6 +52,11 @@ fn combine(calls: &dyn Calls, input: &Input) {
 
 fn settle(calls: &dyn Calls, input: &Input) {
     black_box(calls.settle(&input.sheet, &mut [0; 1024]));
+}
+
+fn list(calls: &dyn Calls, input: &Input) {
+    let wanted = (input.last + 1) << 32 | input.length as u64;
+    assert_eq!(calls.blocks(&input.sheet, 0, &mut vec![0; input.length]), wanted);
 }
 
 fn lines(calls: &dyn Calls, input: &Input) {
@@ -102,12 +112,14 @@ fn main() {
     let [_, title, sheet, answer, runs] = &words[..] else { panic!("usage: bench_calls TITLE SHEET ANSWER RUNS") };
     let sheet = std::fs::read(sheet).expect("the sheet");
     let answer = std::fs::read(answer).expect("the answer");
-    let variables = Encoding::of(&settled(&sheet).expect("a sheet that settles")).variables;
+    let settled = settled(&sheet).expect("a sheet that settles");
+    let encoding = Encoding::of(&settled);
+    let (variables, last, length) = (encoding.variables, encoding.blocks() as u64, listing(&encoding).len());
     let blank = rewritten(&sheet, |_| true);
     let mut model = read_model(&sheet).expect("a sheet");
     model.constraints.clear();
     let bare = write_model(&model);
-    let mut input = Input { sheet, blank, bare, answer, variables, marks: Vec::new(), groups: [0; 256] };
+    let mut input = Input { sheet, blank, bare, answer, variables, last, length, marks: Vec::new(), groups: [0; 256] };
     input.marks = marks(&Counterpart, &input);
     assert_eq!(Counterpart.close(&input.sheet, 1, &input.marks, &mut input.groups), 0);
     let Some(other) = other() else {
@@ -120,6 +132,8 @@ fn main() {
         println!("| {step} | {title} | {proved:.0} | {rust:.0} | {:.2} |", proved / rust);
         [proved, rust]
     });
-    let [.., close, fill] = times;
+    let [_, _, _, _, list, _, close, fill] = times;
+    let [proved, rust] = list.map(|time| 1_000.0 * time / length as f64);
+    println!("| list, nanoseconds a byte | {title} | {proved:.2} | {rust:.2} | {:.2} |", proved / rust);
     println!("| fill over close | {title} | {:.2} | {:.2} | |", fill[0] / close[0], fill[1] / close[1]);
 }

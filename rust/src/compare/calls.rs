@@ -1,6 +1,6 @@
 //! The calls of the C interface, and this crate's answer to each.
 use super::certificates::checked;
-use crate::encode::Encoding;
+use crate::encode::{blocks_of, Encoding};
 use crate::model::{Model, GROUPS};
 use crate::refusal::{CONTRADICTION, SHORT_BUFFER};
 use crate::settle::{settle, Settled};
@@ -18,6 +18,8 @@ pub trait Calls {
     fn block(&self, sheet: &[u8], block: u32, buffer: &mut [u8]) -> u64;
     /// blocks from one on: next * 2^32 + length, where next is never 0; or the refusal
     fn blocks(&self, sheet: &[u8], block: u32, buffer: &mut [u8]) -> u64;
+    /// refusal * 65536 + the number of the last block
+    fn block_count(&self, sheet: &[u8]) -> u64;
     /// refusal * 2 + 1 where the reading is closed afterwards
     fn line(&self, closed: u32, line: &[u8], marks: &mut [u8]) -> u32;
     /// the refusal; the table gets 256 groups, and 24 is a table without room for them
@@ -29,6 +31,8 @@ pub trait Calls {
     fn block_model(&self, words: &[u64], block: u32, buffer: &mut [u8]) -> u64;
     fn close_model(&self, words: &[u64], closed: u32, marks: &[u8], groups: &mut [u64]) -> u32;
     fn fill_model(&self, words: &[u64], groups: &[u64], marks: &mut [u8]) -> u32;
+    /// the number of a model's last block, settled or not; 0 for a model out of range
+    fn block_count_model(&self, words: &[u64]) -> u32;
     /// the sheet of a model as words: refusal * 2^32 + length
     fn write_model(&self, words: &[u64], buffer: &mut [u8]) -> u64;
     /// the sheet of two combined: refusal * 2^32 + length
@@ -135,6 +139,13 @@ impl Calls for Counterpart {
         }
     }
 
+    fn block_count(&self, sheet: &[u8]) -> u64 {
+        match settled(sheet) {
+            Ok(settled) => Encoding::of(&settled).blocks() as u64,
+            Err(number) => u64::from(number) << 16,
+        }
+    }
+
     fn line(&self, closed: u32, line: &[u8], marks: &mut [u8]) -> u32 {
         let mut closed = closed != 0;
         let refusal = answer::read_line(&mut closed, line, marks).err().unwrap_or(0);
@@ -164,6 +175,10 @@ impl Calls for Counterpart {
 
     fn fill_model(&self, words: &[u64], groups: &[u64], marks: &mut [u8]) -> u32 {
         fill_number(given(words), groups, marks)
+    }
+
+    fn block_count_model(&self, words: &[u64]) -> u32 {
+        from_words(words).map_or(0, |model| blocks_of(&model) as u32)
     }
 
     fn write_model(&self, words: &[u64], buffer: &mut [u8]) -> u64 {

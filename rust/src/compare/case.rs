@@ -4,14 +4,16 @@ use super::calls::{settled, Calls, Counterpart};
 use super::certificates::{self, CertificateCase};
 use super::code_7;
 use super::combining::{self, CombineCase, CombineWordsCase};
+use super::edges;
 use super::filling::{self, FillCase};
 use super::limits;
 use super::models::{self, ModelCase};
 use super::steps;
 use super::twins::{self, TwinCase};
-use crate::encode::Encoding;
+use super::wide;
+use crate::encode::{Encoding, Part};
 use crate::listing::listing;
-use crate::model::{GROUPS, MOST_VARIABLES};
+use crate::model::{BLOCK_BYTES, GROUPS, MOST_VARIABLES};
 use crate::refusal::*;
 use crate::settle::Settled;
 use crate::sheet::read;
@@ -32,10 +34,15 @@ pub enum Case {
         block: u32,
         spare: isize,
     },
-    /// Run after run, from block 0 on, each of so many bytes.
+    /// Run after run, from a block on, each of so many bytes.
     Blocks {
         sheet: Vec<u8>,
+        from: u32,
         rooms: Vec<usize>,
+    },
+    /// The number of the last block, and that there is this one and no more.
+    Count {
+        sheet: Vec<u8>,
     },
     Lines {
         marks: Vec<u8>,
@@ -53,7 +60,7 @@ pub enum Case {
     Twins(TwinCase),
     Combine(CombineCase),
     CombineWords(CombineWordsCase),
-    /// The block of each counter, cut piece by piece.
+    /// The block of each node, cut piece by piece.
     Steps {
         sheet: Vec<u8>,
     },
@@ -66,7 +73,15 @@ pub const SAMPLE: Kind = "line: answers to the published samples";
 /// Every kind of case, in the order of the report. A run that misses one has failed.
 pub fn kinds() -> impl Iterator<Item = Kind> {
     let parts = filling::kinds().chain(limits::kinds()).chain([models::KINDS, certificates::KINDS, blanks::KINDS].into_iter().flatten().copied());
-    KINDS.iter().copied().chain(parts).chain(twins::kinds()).chain(steps::kinds()).chain(combining::kinds()).chain(code_7::KINDS.iter().copied())
+    KINDS
+        .iter()
+        .copied()
+        .chain(parts)
+        .chain(twins::kinds())
+        .chain(steps::kinds())
+        .chain(combining::kinds())
+        .chain([code_7::KINDS, wide::KINDS].into_iter().flatten().copied())
+        .chain(edges::kinds())
 }
 
 const KINDS: &[Kind] = &[
@@ -90,8 +105,8 @@ const KINDS: &[Kind] = &[
     "settle: 24 table a word short",
     "settle: table longer",
     "block: header",
-    "block: counter",
-    "block: group without counter",
+    "block: node below the root",
+    "block: root and its units",
     "block: line",
     "block: line without clauses",
     "block: buffer exactly long enough",
@@ -196,7 +211,8 @@ pub fn check(case: &Case, other: &dyn Calls) -> Outcome {
         Case::Read { sheet } => check_read(sheet, other, &mut outcome),
         Case::Settle { sheet, spare } => check_settle(sheet, *spare, other, &mut outcome),
         Case::Block { sheet, block, spare } => check_block(sheet, *block, *spare, other, &mut outcome),
-        Case::Blocks { sheet, rooms } => check_blocks(sheet, rooms, other, &mut outcome),
+        Case::Blocks { sheet, from, rooms } => check_blocks(sheet, *from, rooms, other, &mut outcome),
+        Case::Count { sheet } => edges::check_count(sheet, other, &mut outcome),
         Case::Lines { marks, lines } => check_lines(marks, lines, other, &mut outcome),
         Case::Close { sheet, closed, marks, room } => check_close(sheet, *closed, marks, *room, other, &mut outcome),
         Case::Fill(fill) => fill.check(other, &mut outcome),
@@ -213,7 +229,7 @@ pub fn check(case: &Case, other: &dyn Calls) -> Outcome {
 fn check_read(sheet: &[u8], other: &dyn Calls, outcome: &mut Outcome) {
     let answer = Counterpart.read(sheet);
     outcome.note(read_kind(sheet, answer));
-    blanks::met(sheet, answer).into_iter().chain(code_7::read(sheet, answer)).for_each(|kind| outcome.note(kind));
+    blanks::met(sheet, answer).into_iter().chain(code_7::read(sheet, answer)).chain(wide::read(sheet, answer)).for_each(|kind| outcome.note(kind));
     outcome.compare("refusal * 65536 + line", answer, other.read(sheet));
 }
 
@@ -250,7 +266,7 @@ pub fn check_settle(sheet: &[u8], spare: isize, other: &dyn Calls, outcome: &mut
         }
     };
     if let (Ok(model), 0..) = (read(sheet), spare) {
-        limits::met(&model).into_iter().chain(code_7::settling(&model)).for_each(|kind| outcome.note(kind));
+        limits::met(&model).into_iter().chain(code_7::settling(&model)).chain(wide::settling(&model)).for_each(|kind| outcome.note(kind));
     }
     let mut ours = junk_words(words.saturating_add_signed(spare));
     let mut theirs = ours.clone();
@@ -285,7 +301,7 @@ fn settled_kind(settled: &Settled) -> Kind {
 }
 
 fn check_block(sheet: &[u8], block: u32, spare: isize, other: &dyn Calls, outcome: &mut Outcome) {
-    let whole = Counterpart.block(sheet, block, &mut [0; 32_768]);
+    let whole = Counterpart.block(sheet, block, &mut vec![0; BLOCK_BYTES]);
     let length = match (whole >> 32) as u32 {
         0 => {
             note_block(sheet, block, whole as usize, spare, outcome);
@@ -297,6 +313,7 @@ fn check_block(sheet: &[u8], block: u32, spare: isize, other: &dyn Calls, outcom
                 CONTRADICTION => "block: 21",
                 _ => "block: sheet refused",
             });
+            outcome.kinds.extend(edges::above(sheet, block));
             64
         }
     };
@@ -312,22 +329,25 @@ fn note_block(sheet: &[u8], block: u32, length: usize, spare: isize, outcome: &m
         return;
     }
     let Ok(settled) = settled(sheet) else { return };
-    let groups = settled.model().groups.len();
-    outcome.note(match (block as usize, length) {
-        (0, _) => "block: header",
-        (block, 0) if block <= groups => "block: group without counter",
-        (block, _) if block <= groups => "block: counter",
-        (_, 0) => "block: line without clauses",
-        _ => "block: line",
+    let (encoding, block) = (Encoding::of(&settled), block as usize);
+    outcome.note(match encoding.part(block) {
+        Part::Header => "block: header",
+        Part::Node { group, .. } if block == *encoding.group_blocks(group).end() => "block: root and its units",
+        Part::Node { .. } => "block: node below the root",
+        Part::Line(_) if length == 0 => "block: line without clauses",
+        Part::Line(_) => "block: line",
     });
     outcome.note(if spare > 0 { "block: buffer longer" } else { "block: buffer exactly long enough" });
-    code_7::block(&Encoding::of(&settled), block as usize).into_iter().for_each(|kind| outcome.note(kind));
+    let kinds = code_7::block(&encoding, block).into_iter().chain(wide::block(&encoding, block, length)).chain(edges::block(&encoding, block));
+    kinds.for_each(|kind| outcome.note(kind));
 }
 
 /// Run after run, each side from where its own last run stopped.
-fn check_blocks(sheet: &[u8], rooms: &[usize], other: &dyn Calls, outcome: &mut Outcome) {
-    let last = settled(sheet).map_or(0, |settled| Encoding::of(&settled).blocks() as u32);
-    let (mut block, mut text) = (0, Vec::new());
+fn check_blocks(sheet: &[u8], from: u32, rooms: &[usize], other: &dyn Calls, outcome: &mut Outcome) {
+    let settled = settled(sheet).ok();
+    let encoding = settled.as_ref().map(Encoding::of);
+    let last = encoding.as_ref().map_or(0, |encoding| encoding.blocks() as u32);
+    let (mut block, mut text) = (from, Vec::new());
     outcome.calls = rooms.len() as u64;
     for &room in rooms {
         let (mut ours, mut theirs) = (junk(room), junk(room));
@@ -336,12 +356,13 @@ fn check_blocks(sheet: &[u8], rooms: &[usize], other: &dyn Calls, outcome: &mut 
         outcome.go_on();
         outcome.note(match answer as u32 {
             _ if next > last => "blocks: to the end of the listing",
-            _ if next == block + 1 => "blocks: one block",
+            _ if next > block && next - block == 1 => "blocks: one block",
             _ if next > 0 => "blocks: several blocks",
             NO_BLOCK => "blocks: 23 no such block",
             SHORT_BUFFER => "blocks: 24 next block does not fit",
             _ => "blocks: 21 or sheet refused",
         });
+        outcome.kinds.extend(encoding.iter().flat_map(|encoding| edges::run(encoding, block, room, answer)));
         outcome.compare("next * 2^32 + length, or the refusal", answer, other.blocks(sheet, block, &mut theirs));
         outcome.compare_bytes("buffer", &ours, &theirs);
         if next > 0 {
@@ -349,10 +370,10 @@ fn check_blocks(sheet: &[u8], rooms: &[usize], other: &dyn Calls, outcome: &mut 
             block = next;
         }
     }
-    if let (Ok(settled), true) = (settled(sheet), block > last) {
-        let encoding = Encoding::of(&settled);
+    if let (Some(encoding), 0, true) = (encoding, from, block > last) {
         outcome.note("blocks: together the listing");
         outcome.kinds.extend(code_7::has_x(&encoding).then_some("different: blocks, together the listing"));
+        outcome.kinds.extend(wide::is_wide(encoding.settled.model()).then_some("wide: blocks, together the listing"));
         outcome.compare("the runs together", &listing(&encoding), &text);
     }
 }
@@ -366,6 +387,7 @@ fn check_lines(marks: &[u8], lines: &[Vec<u8>], other: &dyn Calls, outcome: &mut
         let answer = Counterpart.line(closed, line, &mut ours);
         outcome.go_on();
         outcome.note(line_kind(line, answer, closed, ours.len()));
+        outcome.kinds.extend(wide::line(line, answer, ours.len()));
         let their_answer = other.line(their_closed, line, &mut theirs);
         outcome.compare(&format!("line {}: refusal * 2 + closed", index + 1), answer, their_answer);
         outcome.compare_bytes(&format!("marks after line {}", index + 1), &ours, &theirs);
@@ -398,7 +420,9 @@ fn check_close(sheet: &[u8], closed: bool, marks: &[u8], room: usize, other: &dy
     let answer = Counterpart.close(sheet, closed.into(), marks, &mut ours);
     outcome.note(close_kind(sheet, closed, marks, answer));
     if let Ok(settled) = settled(sheet) {
-        code_7::closing(&Encoding::of(&settled), closed, marks, answer).into_iter().for_each(|kind| outcome.note(kind));
+        let encoding = Encoding::of(&settled);
+        let kinds = code_7::closing(&encoding, closed, marks, answer).into_iter().chain(wide::closing(&encoding, &ours, answer));
+        kinds.for_each(|kind| outcome.note(kind));
     }
     if room < GROUPS as usize && answer != SHORT_BUFFER {
         outcome.note("close: refused, table too short");
@@ -446,7 +470,7 @@ impl Case {
     pub fn sheet(&self) -> Option<&[u8]> {
         match self {
             Case::Read { sheet } | Case::Settle { sheet, .. } | Case::Block { sheet, .. } | Case::Blocks { sheet, .. } => Some(sheet),
-            Case::Close { sheet, .. } | Case::Steps { sheet } => Some(sheet),
+            Case::Close { sheet, .. } | Case::Steps { sheet } | Case::Count { sheet } => Some(sheet),
             Case::Fill(fill) => Some(&fill.sheet),
             Case::Certificate(certificate) => Some(&certificate.sheet),
             Case::Twins(twins) => twins.case.sheet(),
@@ -474,11 +498,15 @@ impl Case {
         }
     }
 
-    /// The same case on another sheet; marks are cut or lengthened to its variables.
+    /// The same case on another sheet; marks are cut or lengthened to its variables, and a block's number moves with its part.
     pub fn with_sheet(&self, new: Vec<u8>) -> Case {
         let mut case = self.clone();
         match &mut case {
-            Case::Read { sheet } | Case::Settle { sheet, .. } | Case::Block { sheet, .. } | Case::Blocks { sheet, .. } | Case::Steps { sheet } => *sheet = new,
+            Case::Read { sheet } | Case::Settle { sheet, .. } | Case::Steps { sheet } | Case::Count { sheet } => *sheet = new,
+            Case::Block { sheet, block, .. } | Case::Blocks { sheet, from: block, .. } => {
+                *block = edges::moved(*block, sheet, &new);
+                *sheet = new;
+            }
             Case::Close { sheet, marks, .. } => {
                 let variables = |sheet: &[u8]| settled(sheet).ok().map(|settled| Encoding::of(&settled).variables as isize);
                 if let (Some(before), Some(now)) = (variables(sheet), variables(&new)) {
@@ -501,14 +529,15 @@ impl Case {
             Case::Read { sheet } => format!("read\n{}", show_sheet(sheet)),
             Case::Settle { sheet, spare } => format!("settle, table of 4*s{spare:+} words\n{}", show_sheet(sheet)),
             Case::Block { sheet, block, spare } => format!("block {block}, buffer of the block's length{spare:+}\n{}", show_sheet(sheet)),
-            Case::Blocks { sheet, rooms } => format!("runs of blocks, buffers of {rooms:?} bytes\n{}", show_sheet(sheet)),
+            Case::Blocks { sheet, from, rooms } => format!("runs of blocks from {from}, buffers of {rooms:?} bytes\n{}", show_sheet(sheet)),
+            Case::Count { sheet } => format!("number of blocks\n{}", show_sheet(sheet)),
             Case::Fill(fill) => fill.show(),
             Case::Model(model) => model.show(),
             Case::Certificate(certificate) => certificate.show(),
             Case::Twins(twins) => twins.show(),
             Case::Combine(pair) => pair.show(),
             Case::CombineWords(pair) => pair.show(),
-            Case::Steps { sheet } => format!("each counter by its steps\n{}", show_sheet(sheet)),
+            Case::Steps { sheet } => format!("each node by its steps\n{}", show_sheet(sheet)),
             Case::Close { sheet, closed, marks, room } => format!("close, closed {closed}, marks {marks:?}, table of {room} words\n{}", show_sheet(sheet)),
             Case::Lines { marks, lines } => {
                 let lines: String = lines.iter().map(|line| format!("  \"{}\"\n", line.escape_ascii())).collect();

@@ -10,7 +10,7 @@ use crate::certificate::check::{check, Check, Limits};
 use crate::certificate::{elaborate::elaborate, lrat};
 use crate::encode::Encoding;
 use crate::listing::{listing, write_block};
-use crate::model::{Constraint, Group, Model};
+use crate::model::{first_entrants, Constraint, Group, Model, BLOCK_BYTES};
 use crate::sheet;
 
 #[derive(Clone, Debug)]
@@ -49,7 +49,7 @@ struct Room {
 }
 
 /// A text that takes every block.
-const TEXT: usize = 32_768;
+const TEXT: usize = BLOCK_BYTES;
 
 /// A sheet that has more lemmas than this is left out.
 const MOST_LEMMAS: usize = 600;
@@ -235,7 +235,7 @@ fn padded(case: &CertificateCase) -> Vec<u8> {
 fn crowded(random: &mut Random) -> Model {
     let entrants = random.from_to(2, 5) as u32;
     let (tables, size) = random.pick(&[(2, 2), (2, 3), (3, 1), (3, 2), (4, 1), (5, 1)]);
-    let everyone = (1 << entrants) - 1;
+    let everyone = first_entrants(entrants);
     let size = size.min(entrants);
     let mut groups = vec![Group { fixed: 0, possible: everyone, low: size, high: size }; tables];
     groups[0].possible &= !random.set(entrants, 10);

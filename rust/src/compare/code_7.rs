@@ -2,7 +2,7 @@
 use super::case::Kind;
 use crate::close::groups;
 use crate::different::Different;
-use crate::encode::Encoding;
+use crate::encode::{Encoding, Part};
 use crate::fill::{assignment, is_draw};
 use crate::model::*;
 use crate::refusal::*;
@@ -28,6 +28,7 @@ pub const KINDS: &[Kind] = &[
     "different: settle, rule fixes in G",
     "different: settle, rule with one entrant",
     "different: settle, rule on entrant 32",
+    "different: settle, rule on entrant 64",
     "different: settle, rule on the newest table",
     "different: settle, rule in a later pass",
     "different: settle, all alike but one open",
@@ -48,6 +49,7 @@ pub const KINDS: &[Kind] = &[
     "different: block, some settled alike",
     "different: block, last clause of one X",
     "different: block, last clause of 32 X",
+    "different: block, last clause of 64 X",
     "different: block, already differs",
     "different: block, X after counters",
     "different: block, X without counters",
@@ -58,10 +60,12 @@ pub const KINDS: &[Kind] = &[
     "different: block, other code behind",
     "different: block, counter before X",
     "different: block, X up to 57,344",
+    "different: block, X up to 59,392",
     "different: blocks, together the listing",
     "different: counters by their steps",
     "different: close, groups",
     "different: close, 57,344 marks",
+    "different: close, 59,392 marks",
     "different: close, 26 without X",
     "different: close, 27 X unsaid",
     "different: close, 28 X true wrongly",
@@ -211,6 +215,7 @@ impl Settling<'_> {
         note(after.g.fixed != g.fixed, "different: settle, rule fixes in G");
         note(self.model.entrants == 1, "different: settle, rule with one entrant");
         note(after.differing() == 1 << 31, "different: settle, rule on entrant 32");
+        note(after.differing() == 1 << 63, "different: settle, rule on entrant 64");
         note(!sooner, "different: settle, rule on the newest table");
         note(pass > 1, "different: settle, rule in a later pass");
     }
@@ -251,12 +256,12 @@ pub fn block(encoding: &Encoding, block: usize) -> Vec<Kind> {
     if !has_line(model) {
         return Vec::new();
     }
-    let (x, s) = (x_of_lines(encoding), model.groups.len());
+    let x = x_of_lines(encoding);
     let any = x.iter().any(|&many| many > 0);
-    match block {
-        0 => vec![if any { "different: header" } else { "different: header, no X" }],
-        _ if block <= s => (any && encoding.counter_start(block - 1).is_some()).then_some("different: block, counter before X").into_iter().collect(),
-        _ => line_kinds(encoding, block - 1 - s, &x),
+    match encoding.part(block) {
+        Part::Header => vec![if any { "different: header" } else { "different: header, no X" }],
+        Part::Node { .. } => any.then_some("different: block, counter before X").into_iter().collect(),
+        Part::Line(index) => line_kinds(encoding, index, &x),
     }
 }
 
@@ -284,11 +289,14 @@ fn line_kinds(encoding: &Encoding, index: usize, x: &[usize]) -> Vec<Kind> {
         note(x[index] < model.entrants as usize, "different: block, some settled alike");
         note(x[index] == 1, "different: block, last clause of one X");
         note(x[index] == 32, "different: block, last clause of 32 X");
+        note(x[index] == 64, "different: block, last clause of 64 X");
         note(has_counter(encoding), "different: block, X after counters");
         note(!has_counter(encoding), "different: block, X without counters");
         note(x[..index].iter().any(|&many| many > 0), "different: block, X after another line's");
         note(before.iter().zip(x).any(|(line, &many)| line.code == 7 && many == 0), "different: block, X after a line without");
-        note(encoding.each_x(index).any(|(_, x)| x as usize == MOST_VARIABLES), "different: block, X up to 57,344");
+        let last = encoding.each_x(index).last().map_or(0, |(_, x)| x as usize);
+        note(last == NARROW_VARIABLES && model.entrants == NARROW_ENTRANTS, "different: block, X up to 57,344");
+        note(last == MOST_VARIABLES, "different: block, X up to 59,392");
     }
     kinds
 }
@@ -301,7 +309,8 @@ pub fn closing(encoding: &Encoding, closed: bool, marks: &[u8], answer: u32) -> 
     }
     let unsaid = |marks: &[u8]| marks.iter().any(|mark| ![1, 2].contains(mark));
     match answer {
-        0 if encoding.variables == MOST_VARIABLES => Some("different: close, 57,344 marks"),
+        0 if encoding.variables == NARROW_VARIABLES => Some("different: close, 57,344 marks"),
+        0 if encoding.variables == MOST_VARIABLES => Some("different: close, 59,392 marks"),
         0 => Some("different: close, groups"),
         MARKS => (marks.len() == without).then_some("different: close, 26 without X"),
         UNSAID => (closed && !unsaid(&marks[..without])).then_some("different: close, 27 X unsaid"),
@@ -436,9 +445,11 @@ pub fn taken_words(words: &[u64], call: Call, refusal: u32) -> Option<Kind> {
 fn answered_words(words: &[u64], call: Call) -> Option<Kind> {
     let settled = Settled::given(from_words(words).ok()?).ok()?;
     let encoding = Encoding::of(&settled);
-    let line = |block: usize| block.checked_sub(settled.model().groups.len() + 1);
     match call {
-        Call::Block(block) => (encoding.each_x(line(block)?).count() > 0).then_some("different: model, block"),
+        Call::Block(block) => match encoding.part(block) {
+            Part::Line(index) => (encoding.each_x(index).count() > 0).then_some("different: model, block"),
+            _ => None,
+        },
         Call::Close => has_x(&encoding).then_some("different: model, closed"),
         Call::Fill => has_x(&encoding).then_some("different: model, filled"),
     }

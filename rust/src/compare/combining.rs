@@ -9,8 +9,9 @@ use super::random::Random;
 use super::sheets::{self, Pair};
 use super::shrink::without_entrant;
 use super::twins::TwinCase;
+use super::wide;
 use crate::combine::{barred_and_fixed, clash};
-use crate::encode::Encoding;
+use crate::encode::{blocks_of, Encoding};
 use crate::fill::is_draw;
 use crate::listing::listing;
 use crate::model::*;
@@ -172,7 +173,7 @@ fn fit_names(first: &Model, second: &Model) -> Vec<&'static str> {
     let lines = (first.constraints.len(), second.constraints.len());
     let groups = || first.groups.iter().zip(&second.groups);
     let union_of = |k: usize| first.constraints.iter().chain(&second.constraints).any(|line| line.code == 6 && line.groups.len() == k + 1);
-    let (wide, long) = (first.entrants == ENTRANTS, first.groups.len() == GROUPS as usize);
+    let (wide, long) = (first.entrants == NARROW_ENTRANTS, first.groups.len() == GROUPS as usize);
     let mut names = vec!["fits"];
     let mut note = |really: bool, name: &'static str| names.extend(really.then_some(name));
     note(first == second, "one with itself");
@@ -247,6 +248,7 @@ impl CombineCase {
         match (first, second) {
             (Ok(first), Ok(second)) => {
                 met(&first, &second).into_iter().for_each(|name| note_both(name, 0, outcome));
+                wide::combined(&first, &second, number).into_iter().for_each(|kind| outcome.note(kind));
                 if number == 0 {
                     code_7::combined(&first, &second, &self.groups).into_iter().for_each(|kind| outcome.note(kind));
                 }
@@ -275,7 +277,7 @@ impl CombineCase {
             outcome.note("combine: listed");
             let listing = listing(&Encoding::of(settled));
             let mut theirs = junk(listing.len());
-            let next = (1 + model.groups.len() + model.constraints.len()) as u64;
+            let next = 1 + blocks_of(settled.model()) as u64;
             outcome.compare("next * 2^32 + length of the combined sheet's listing", next << 32 | listing.len() as u64, other.blocks(text, 0, &mut theirs));
             outcome.compare_bytes("listing of the combined sheet", &listing, &theirs);
         }
@@ -361,6 +363,7 @@ impl CombineWordsCase {
             self.note_ignored(&[&first, &second], outcome);
         }
         met(&first, &second).into_iter().for_each(|name| note_both(name, 1, outcome));
+        outcome.kinds.extend((answer == 0 && wide::is_wide(&first)).then_some("wide: combine words"));
         if answer == 0 {
             code_7::combined_words(&self.words, [&first, &second]).into_iter().for_each(|kind| outcome.note(kind));
         }
@@ -421,7 +424,7 @@ fn check_words(model: &Model, words: &[u64], other: &dyn Calls, outcome: &mut Ou
 fn behind_20(first: &[u64], second: &[u64]) -> Option<u32> {
     let head = |words: &[u64]| [0, 1, 2].map(|at| words.get(at).copied().unwrap_or(0) as u32);
     let (one, other) = (head(first), head(second));
-    if [one, other].iter().any(|[n, s, c]| !(1..=ENTRANTS).contains(n) || !(1..=GROUPS).contains(s) || *c > LINES) {
+    if [one, other].iter().any(|&[n, s, c]| !sizes_in_range(n, s, c)) {
         return None;
     }
     if one[..2] != other[..2] {
@@ -500,7 +503,7 @@ fn pair(random: &mut Random, sevens: usize) -> Pair {
     pair
 }
 
-fn change(random: &mut Random, pair: &mut Pair, sevens: usize) {
+pub fn change(random: &mut Random, pair: &mut Pair, sevens: usize) {
     let at = random.below(2);
     let (n, s) = (pair.models[0].entrants.min(pair.models[1].entrants), pair.models[0].groups.len().min(pair.models[1].groups.len()));
     let index = end_or_any(random, s);
@@ -535,7 +538,7 @@ fn end_or_any(random: &mut Random, many: usize) -> usize {
 
 /// A loose group.
 fn open_group(entrants: u32) -> Group {
-    Group { fixed: 0, possible: (1 << entrants) - 1, low: 0, high: entrants }
+    Group { fixed: 0, possible: first_entrants(entrants), low: 0, high: entrants }
 }
 
 /// About 256 lines in all.
@@ -552,8 +555,8 @@ fn many_lines(random: &mut Random, pair: &mut Pair, sevens: usize) {
 }
 
 fn another_n(random: &mut Random, model: &mut Model) {
-    if model.entrants == ENTRANTS {
-        *model = without_entrant(model, ENTRANTS - 1, 0);
+    if [NARROW_ENTRANTS, ENTRANTS].contains(&model.entrants) {
+        *model = without_entrant(model, model.entrants - 1, 0);
         return;
     }
     for group in &mut model.groups {
@@ -563,11 +566,11 @@ fn another_n(random: &mut Random, model: &mut Model) {
 }
 
 fn another_s(model: &mut Model) {
-    if model.groups.len() < GROUPS as usize {
+    if model.groups.len() < most_groups(model.entrants) as usize {
         return model.groups.push(open_group(model.entrants));
     }
     model.groups.pop();
-    model.constraints.retain(|line| !line.groups.contains(&(GROUPS as usize - 1)));
+    model.constraints.retain(|line| !line.groups.contains(&model.groups.len()));
 }
 
 /// A union of two or of sixteen, where there are groups enough, in the place of the last line where there is no room for another.

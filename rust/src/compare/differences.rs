@@ -43,7 +43,8 @@ fn sheet_cases(random: &mut Random) -> Vec<Case> {
     }
     if random.chance(20) {
         cases.push(blocks_case(random, &sheet));
-        cases.push(Case::Steps { sheet: sheet.clone() });
+        // a call a node: not on the longest sheets
+        cases.extend((sheet.len() < 10_000).then(|| Case::Steps { sheet: sheet.clone() }));
     }
     for _ in 0..2 {
         cases.extend(models::case(random, &sheet, draw).map(Case::Model));
@@ -71,9 +72,21 @@ pub fn sample(random: &mut Random) -> Sample {
     Sample { sheet: sheet::write(&model), draw }
 }
 
+/// A sheet of so many entrants around lines of code 7.
+pub fn sample_of(random: &mut Random, entrants: u32) -> Sample {
+    let model = near_of(random, entrants);
+    let draw = draw(random, &model);
+    Sample { sheet: sheet::write(&model), draw }
+}
+
 /// Pairs of groups that must not be the same, lines of other codes before, between and after, and now and then more groups.
 fn near(random: &mut Random) -> Model {
     let entrants = random.pick(&[1, 1, 2, 3, 3, 4, 6, 32]);
+    near_of(random, entrants)
+}
+
+/// The same, of so many entrants.
+fn near_of(random: &mut Random, entrants: u32) -> Model {
     let mut model = Model { entrants, groups: Vec::new(), constraints: Vec::new() };
     for _ in 0..random.pick(&[1, 1, 1, 2, 3]) {
         let (f, g) = (model.groups.len(), model.groups.len() + 1);
@@ -182,7 +195,7 @@ fn with_same(model: &Model, sets: &[u64], line: &Constraint) -> Vec<u64> {
 }
 
 /// A closing with one X wrong, unsaid or with no X at all, or with two groups the same that must not be.
-fn wrong_x(random: &mut Random, sheet: &[u8], draw: &[u64]) -> Option<Case> {
+pub fn wrong_x(random: &mut Random, sheet: &[u8], draw: &[u64]) -> Option<Case> {
     let settled = settled(sheet).ok()?;
     let (model, encoding) = (settled.model(), Encoding::of(&settled));
     let lines: Vec<usize> = (0..model.constraints.len()).filter(|&index| encoding.each_x(index).next().is_some()).collect();
@@ -243,22 +256,24 @@ fn faulty(random: &mut Random) -> Vec<u8> {
 fn crowded(random: &mut Random) -> Model {
     let entrants = random.from_to(2, 3) as u32;
     let many = entrants as usize + random.pick(&[0, 1, 1, 1]);
-    let group = Group { fixed: 0, possible: (1 << entrants) - 1, low: 1, high: 1 };
+    let group = Group { fixed: 0, possible: first_entrants(entrants), low: 1, high: 1 };
     let mut constraints: Vec<Constraint> = (0..many).flat_map(|f| (f + 1..many).map(move |g| Constraint { code: 7, groups: vec![f, g] })).collect();
     random.shuffle(&mut constraints);
     Model { entrants, groups: vec![group; many], constraints }
 }
 
-/// The cases with as many variables as there can be: a ring of groups, each unlike the next.
+/// The cases with as many variables as 32 entrants can have: a ring of groups, each unlike the next.
 fn largest_cases(random: &mut Random) -> Vec<Case> {
     let Sample { sheet, draw } = largest(random);
-    let lines = (GROUPS + LINES) as usize;
-    let marks = settled(&sheet).map_or(Vec::new(), |settled| assignment(&Encoding::of(&settled), draw.as_deref().unwrap_or_default()));
+    let settled = settled(&sheet).expect("a sheet that settles");
+    let encoding = Encoding::of(&settled);
+    let marks = assignment(&encoding, draw.as_deref().unwrap_or_default());
     let many = random.pick(&[MOST_VARIABLES, MOST_VARIABLES, MOST_VARIABLES + 1]);
     vec![
         Case::Settle { sheet: sheet.clone(), spare: 0 },
+        Case::Count { sheet: sheet.clone() },
         Case::Block { sheet: sheet.clone(), block: 0, spare: 0 },
-        Case::Block { sheet: sheet.clone(), block: lines as u32, spare: random.pick(&[0, 0, 1]) },
+        Case::Block { sheet: sheet.clone(), block: encoding.blocks() as u32, spare: random.pick(&[0, 0, 1]) },
         Case::Fill(filling::case(random, sheet.clone(), draw.as_deref())),
         Case::Close { sheet, closed: true, marks, room: 256 },
         Case::Lines { marks: vec![0; many], lines: (0..3).map(|_| answers::line(random, many)).collect() },
@@ -266,11 +281,12 @@ fn largest_cases(random: &mut Random) -> Vec<Case> {
 }
 
 fn largest(random: &mut Random) -> Sample {
-    let group = Group { fixed: 0, possible: (1 << ENTRANTS) - 1, low: 1, high: ENTRANTS - 1 };
+    let n = NARROW_ENTRANTS;
+    let group = Group { fixed: 0, possible: first_entrants(n), low: 1, high: n - 1 };
     let many = GROUPS as usize;
     let ring = |f: usize| Constraint { code: 7, groups: vec![f, (f + 1) % many] };
-    let model = Model { entrants: ENTRANTS, groups: vec![group; many], constraints: (0..LINES as usize).map(ring).collect() };
-    let draw = (0..many).map(|at| random.set(ENTRANTS, 50) & !0b111 | if at % 2 == 0 { 0b001 } else { 0b010 }).collect();
+    let model = Model { entrants: n, groups: vec![group; many], constraints: (0..LINES as usize).map(ring).collect() };
+    let draw = (0..many).map(|at| random.set(n, 50) & !0b111 | if at % 2 == 0 { 0b001 } else { 0b010 }).collect();
     Sample { sheet: sheet::write(&model), draw: Some(draw) }
 }
 
@@ -389,10 +405,10 @@ mod tests {
     }
 
     #[test]
-    fn the_largest_has_as_many_variables_as_there_can_be() {
+    fn the_largest_has_as_many_variables_as_32_entrants_can_have() {
         let Sample { sheet, draw } = largest(&mut Random(54));
         let settled = settled(&sheet).unwrap();
-        assert_eq!(Encoding::of(&settled).variables, MOST_VARIABLES);
+        assert_eq!(Encoding::of(&settled).variables, NARROW_VARIABLES);
         assert!(is_draw(settled.model(), &draw.unwrap()));
     }
 }

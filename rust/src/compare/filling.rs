@@ -3,6 +3,7 @@ use super::calls::{settled, Calls, Counterpart};
 use super::case::{junk, junk_words, show_sheet, Kind, Outcome};
 use super::code_7;
 use super::random::Random;
+use super::wide;
 use crate::encode::Encoding;
 use crate::model::*;
 use crate::refusal::*;
@@ -31,7 +32,7 @@ pub enum Origin {
     AnySets,
 }
 
-/// The largest V without lines of code 7.
+/// The largest V without lines of code 7: that of 32 entrants.
 const MOST_WITHOUT_CODE_7: usize = 49_152;
 
 const BY_CODE: [Kind; 7] = [
@@ -50,6 +51,7 @@ const KINDS: &[Kind] = &[
     "fill: open marks and no counter",
     "fill: no variables",
     "fill: as many variables as there can be",
+    "fill: as many variables as with 32 entrants",
     "fill: as many variables as without code 7",
     "fill: a change that leaves a draw",
     "fill: words missing, their groups empty",
@@ -117,12 +119,13 @@ impl FillCase {
         note(!counted && encoding.variables > 0, "fill: open marks and no counter");
         note(encoding.variables == 0, "fill: no variables");
         note(encoding.variables == MOST_VARIABLES, "fill: as many variables as there can be");
+        note(encoding.variables == NARROW_VARIABLES, "fill: as many variables as with 32 entrants");
         note(encoding.variables == MOST_WITHOUT_CODE_7, "fill: as many variables as without code 7");
         note(!matches!(self.origin, Origin::Draw | Origin::AnySets), "fill: a change that leaves a draw");
         note(self.groups.len() < s, "fill: words missing, their groups empty");
         note(self.groups.len() > s, "fill: words past s ignored");
         note(self.groups.len() > GROUPS as usize, "fill: words past 256 ignored");
-        code_7::filled(&encoding).into_iter().for_each(|kind| outcome.note(kind));
+        code_7::filled(&encoding).into_iter().chain(wide::filled(&encoding, &self.groups)).for_each(|kind| outcome.note(kind));
     }
 
     fn note_no_draw(&self, settled: &Settled, length: usize, outcome: &mut Outcome) {
@@ -134,6 +137,7 @@ impl FillCase {
             Origin::WordsMissing => "fill: 30 words missing",
             Origin::Draw | Origin::AnySets => "fill: 30 any sets",
         });
+        outcome.kinds.extend(wide::not_filled(settled.model(), &self.groups));
         let faults: Vec<Kind> = faults(settled.model(), &self.groups).into_iter().collect();
         if let [alone] = faults[..] {
             outcome.note(alone);
@@ -206,18 +210,19 @@ fn faults(model: &Model, groups: &[u64]) -> BTreeSet<Kind> {
 
 /// A case on a sheet, with groups from its draw where it has a known one.
 pub fn case(random: &mut Random, sheet: Vec<u8>, draw: Option<&[u64]>) -> FillCase {
-    let (entrants, many) = sheet::read(&sheet).map_or((ENTRANTS, 3), |model| (model.entrants, model.groups.len()));
+    let (entrants, many) = sheet::read(&sheet).map_or((NARROW_ENTRANTS, 3), |model| (model.entrants, model.groups.len()));
     let (groups, origin) = groups(random, entrants, many, draw);
     FillCase { sheet, groups, origin, spare: spare(random) }
 }
 
 /// The largest sheet, with as many variables as there can be without lines of code 7: a ring of unions of sixteen, whose groups are all the same.
 pub fn largest(random: &mut Random) -> FillCase {
-    let group = Group { fixed: 0, possible: (1 << ENTRANTS) - 1, low: 1, high: ENTRANTS - 1 };
+    let n = NARROW_ENTRANTS;
+    let group = Group { fixed: 0, possible: first_entrants(n), low: 1, high: n - 1 };
     let ring = |first: usize| Constraint { code: 6, groups: (first..=first + UNION_MAX as usize).map(|at| at % GROUPS as usize).collect() };
     let groups = GROUPS as usize;
-    let model = Model { entrants: ENTRANTS, groups: vec![group; groups], constraints: (0..groups).map(ring).collect() };
-    let set = random.set(ENTRANTS, 50) & !1 | 2;
+    let model = Model { entrants: n, groups: vec![group; groups], constraints: (0..groups).map(ring).collect() };
+    let set = random.set(n, 50) & !1 | 2;
     case(random, sheet::write(&model), Some(&vec![set; groups]))
 }
 
@@ -256,7 +261,7 @@ fn change(random: &mut Random, entrants: u32, groups: &mut Vec<u64>) -> Origin {
             groups[other] |= entrant;
             Origin::Moved
         }
-        5 => {
+        5 if entrants < ENTRANTS => {
             past_entrants(random, entrants, one, groups);
             Origin::PastEntrants
         }
@@ -278,7 +283,7 @@ fn member(random: &mut Random, set: u64) -> u64 {
 
 /// An entrant past n, in one group, or in all so that most lines stay true.
 fn past_entrants(random: &mut Random, entrants: u32, one: usize, groups: &mut [u64]) {
-    let entrant = 1 << random.pick(&[entrants, entrants, 32, 63]);
+    let entrant = 1 << random.pick(&[entrants, entrants, entrants.max(32), 63]);
     if random.chance(50) {
         groups[one] |= entrant;
     } else {

@@ -167,7 +167,7 @@ impl Plan {
 
     /// A group without limits, all marks open.
     fn group(&mut self, set: u64) -> usize {
-        self.groups.push(Group { fixed: 0, possible: (1 << self.entrants) - 1, low: 0, high: self.entrants });
+        self.groups.push(Group { fixed: 0, possible: first_entrants(self.entrants), low: 0, high: self.entrants });
         self.sets.push(set);
         self.groups.len() - 1
     }

@@ -5,9 +5,10 @@ use super::code_7;
 use super::filling::{self, marks_length, Origin};
 use super::limits::{unsettled_alone, widened};
 use super::random::Random;
-use crate::encode::Encoding;
+use super::{edges, wide};
+use crate::encode::{blocks_of, Encoding};
 use crate::fill::assignment;
-use crate::model::Model;
+use crate::model::{Model, BLOCK_BYTES};
 use crate::refusal::*;
 use crate::settle::settle;
 use crate::sheet;
@@ -46,6 +47,7 @@ enum Call {
     Write {
         spare: isize,
     },
+    Count,
 }
 
 /// The kinds of the cases made here, in the order of the report.
@@ -124,13 +126,14 @@ impl ModelCase {
         if let Some(kind) = self.damaged.and_then(|place| damage_kind(&self.words, place)) {
             outcome.note(kind);
         }
-        code_7::words(&self.words, self.damaged).into_iter().for_each(|kind| outcome.note(kind));
+        code_7::words(&self.words, self.damaged).into_iter().chain(wide::words(&self.words)).for_each(|kind| outcome.note(kind));
         match &self.call {
             Call::Settle { room } => self.check_settle(*room, other, outcome),
             Call::Block { block, spare } => self.check_block(*block, *spare, other, outcome),
             Call::Close { closed, marks } => self.check_close(*closed, marks, other, outcome),
             Call::Fill { groups, origin, spare } => self.check_fill(groups, *origin, *spare, other, outcome),
             Call::Write { spare } => self.check_write(*spare, other, outcome),
+            Call::Count => self.check_count(other, outcome),
         }
     }
 
@@ -153,7 +156,7 @@ impl ModelCase {
     }
 
     fn check_block(&self, block: u32, spare: isize, other: &dyn Calls, outcome: &mut Outcome) {
-        let length = Counterpart.block_model(&self.words, block, &mut [0; 32_768]) as u32 as usize;
+        let length = Counterpart.block_model(&self.words, block, &mut vec![0; BLOCK_BYTES]) as u32 as usize;
         let mut ours = junk(length.saturating_add_signed(spare));
         let mut theirs = ours.clone();
         let answer = Counterpart.block_model(&self.words, block, &mut ours);
@@ -222,6 +225,11 @@ impl ModelCase {
         outcome.compare_bytes("buffer", &ours, &theirs);
     }
 
+    fn check_count(&self, other: &dyn Calls, outcome: &mut Outcome) {
+        edges::count_words(&self.words).into_iter().for_each(|kind| outcome.note(kind));
+        outcome.compare("number of blocks", Counterpart.block_count_model(&self.words), other.block_count_model(&self.words));
+    }
+
     /// The call, the head and the words that are not 0.
     pub fn show(&self) -> String {
         let words = self.words.iter().enumerate().filter(|(_, &word)| word != 0).map(|(place, word)| format!(" {place}:{word}"));
@@ -254,12 +262,28 @@ pub fn of_model(random: &mut Random, model: &Model, draw: Option<&[u64]>) -> Mod
 pub fn of_words(random: &mut Random, model: &Model, words: Vec<u64>, damaged: Option<usize>, draw: Option<&[u64]>) -> ModelCase {
     let call = match random.below(5) {
         0 => Call::Settle { room: (4 * model.groups.len()).saturating_add_signed(random.pick(&[0, 0, -1, 5])) },
-        1 => Call::Block { block: random.below(model.groups.len() + model.constraints.len() + 2) as u32, spare: random.pick(&[0, 0, -1, 9]) },
+        1 => Call::Block { block: random.below(blocks_of(model) + 2) as u32, spare: random.pick(&[0, 0, -1, 9]) },
         2 => Call::Write { spare: random.pick(&[0, 0, -1, 9]) },
         3 => filling(random, model, draw),
         _ => closing(random, &words, draw),
     };
     ModelCase { words, damaged, call }
+}
+
+/// A case on words, in range or not, of a model of so many groups: settling or the number of its blocks.
+pub fn of_any_words(random: &mut Random, words: Vec<u64>, groups: usize) -> ModelCase {
+    let call = if random.chance(50) { Call::Settle { room: 4 * groups } } else { Call::Count };
+    ModelCase { words, damaged: None, call }
+}
+
+/// The number of a model's blocks, what belongs to no group, line or member being `rest`.
+pub fn count(model: &Model, rest: u64) -> ModelCase {
+    ModelCase { words: to_words(model, rest), damaged: None, call: Call::Count }
+}
+
+/// A block of a model as words.
+pub fn block(model: &Model, block: u32) -> ModelCase {
+    ModelCase { words: to_words(model, 0), damaged: None, call: Call::Block { block, spare: 0 } }
 }
 
 fn closing(random: &mut Random, words: &[u64], draw: Option<&[u64]>) -> Call {

@@ -9,11 +9,13 @@ use super::limits;
 use super::random::Random;
 use super::sheets;
 use super::shrink::shrink;
+use super::wide;
 use crate::answer::read_lines;
 use crate::combine::{clash, combine};
 use crate::encode::Encoding;
 use crate::fill::{self, assignment};
 use crate::listing::listing;
+use crate::model::Model;
 use crate::refusal::{CLASH, OTHER_SIZE};
 use crate::{close, sheet};
 use std::collections::BTreeMap;
@@ -161,14 +163,15 @@ fn same_lines(printed: &str, wanted: &str) -> bool {
     reports.len() == wanted.lines().count() && reports.iter().zip(wanted.lines()).all(agree)
 }
 
-/// A sheet, valid, with blank marks, with lines of code 7 or damaged, with an answer and groups for it.
+/// A sheet, valid, with blank marks, with lines of code 7, of more than 32 entrants or damaged, with an answer and groups for it.
 fn sample(random: &mut Random) -> Input {
     let sevens = random.pick(&[0, 0, 30]);
-    let pair = combining::sheets(random, sevens);
+    let pair = if random.chance(20) { wide::pair(random) } else { combining::sheets(random, sevens) };
     let mut sample = match random.below(20) {
         0..=2 => limits::sample(random),
         3..=5 => blanks::sample(random),
         6..=9 => differences::sample(random),
+        10..=13 => wide::sample(random),
         _ => sheets::valid(random),
     };
     if random.chance(30) {
@@ -221,6 +224,15 @@ fn wanted(name: &str, input: &Input) -> Wanted {
     }
 }
 
+/// The kind of a sheet by its entrants.
+fn by_entrants(model: &Model, [narrow, wide]: [Kind; 2]) -> Kind {
+    if wide::is_wide(model) {
+        wide
+    } else {
+        narrow
+    }
+}
+
 fn refused(kind: Kind, lines: String) -> Wanted {
     Wanted { kind, out: None, lines }
 }
@@ -233,7 +245,7 @@ fn wanted_read(bytes: &[u8]) -> Wanted {
     match sheet::read(bytes) {
         Ok(model) => {
             let text = format!("{} entrants, {} groups, {} constraints\n", model.entrants, model.groups.len(), model.constraints.len());
-            whole("read_sheet: accepted", text.into_bytes(), String::new())
+            whole(by_entrants(&model, ["read_sheet: accepted", "read_sheet: accepted, wide"]), text.into_bytes(), String::new())
         }
         Err(no) => refused("read_sheet: refused", format!("refused {} at line {}", no.number, no.line)),
     }
@@ -244,14 +256,20 @@ fn wanted_settled(bytes: &[u8]) -> Wanted {
         return refused("propagate_sheet: sheet refused", format!("refused {} at line {}", no.number, no.line));
     }
     match settled(bytes) {
-        Ok(settled) => whole("propagate_sheet: settled", sheet::write(settled.model()), format!("passes {}\n", settled.passes())),
+        Ok(settled) => {
+            let kind = by_entrants(settled.model(), ["propagate_sheet: settled", "propagate_sheet: settled, wide"]);
+            whole(kind, sheet::write(settled.model()), format!("passes {}\n", settled.passes()))
+        }
         Err(number) => refused("propagate_sheet: 21", format!("refused {number}")),
     }
 }
 
 fn wanted_listing(bytes: &[u8]) -> Wanted {
     match settled(bytes) {
-        Ok(settled) => whole("write_cnf: listing", listing(&Encoding::of(&settled)), String::new()),
+        Ok(settled) => {
+            let kind = by_entrants(settled.model(), ["write_cnf: listing", "write_cnf: listing, wide"]);
+            whole(kind, listing(&Encoding::of(&settled)), String::new())
+        }
         Err(number) => whole("write_cnf: refused", format!("{number}\n").into_bytes(), String::new()),
     }
 }
@@ -265,7 +283,10 @@ fn wanted_groups(bytes: &[u8], answer: &[u8]) -> Wanted {
     let mut err = String::new();
     let (closed, marks) = read_lines(answer, encoding.variables, &mut |line, number| err += &format!("line {line}: refused {number}\n"));
     match close::close(&encoding, closed, &marks) {
-        Ok(groups) => whole("read_solution: groups", close::table(&groups).into_bytes(), err),
+        Ok(groups) => {
+            let kind = by_entrants(settled.model(), ["read_solution: groups", "read_solution: groups, wide"]);
+            whole(kind, close::table(&groups).into_bytes(), err)
+        }
         Err(number) => refused("read_solution: refused", format!("{err}refused {number}")),
     }
 }
@@ -278,7 +299,10 @@ fn wanted_values(bytes: &[u8], groups: &[u64]) -> Wanted {
     let encoding = Encoding::of(&settled);
     let mut marks = vec![0; encoding.variables];
     match fill::fill(&encoding, groups, &mut marks) {
-        Ok(()) => whole("write_values: values", fill::lines(&marks).into_bytes(), String::new()),
+        Ok(()) => {
+            let kind = by_entrants(settled.model(), ["write_values: values", "write_values: values, wide"]);
+            whole(kind, fill::lines(&marks).into_bytes(), String::new())
+        }
         Err(number) => refused("write_values: refused", format!("refused {number}")),
     }
 }
@@ -294,7 +318,10 @@ fn wanted_combined(pair: &[Vec<u8>; 2]) -> Wanted {
         (_, Err(lines)) => return refused_whole("combine_sheets: second sheet refused", lines),
     };
     match (combine(&first, &second), clash(&first, &second)) {
-        (Ok(model), _) => whole("combine_sheets: combined", sheet::write(&model), String::new()),
+        (Ok(model), _) => {
+            let kind = by_entrants(&model, ["combine_sheets: combined", "combine_sheets: combined, wide"]);
+            whole(kind, sheet::write(&model), String::new())
+        }
         (Err(CLASH), Some(place)) => {
             let kind = if place.entrant.is_some() { "combine_sheets: 32 with an entrant" } else { "combine_sheets: 32 by limits" };
             refused_whole(kind, format!("refused 32 at {place}"))

@@ -5,10 +5,11 @@ use super::random::Random;
 use super::sheets::Sample;
 use super::shrink::shrink;
 use super::twins::TwinCase;
-use super::{answers, blanks, certificates, combining, differences, filling, limits, models, samples, sheets, steps};
+use super::{answers, blanks, certificates, combining, differences, filling, limits, models, samples, sheets, steps, wide};
 use crate::encode::Encoding;
 use crate::fill::assignment;
 use crate::listing::listing;
+use crate::model::BLOCK_BYTES;
 use std::collections::BTreeMap;
 use std::time::{Duration, Instant};
 
@@ -23,9 +24,11 @@ pub struct Tally {
 /// Compares until so many calls are made. `say` gets what there is to print.
 pub fn run(other: &dyn Calls, seed: u64, calls: u64, say: &mut dyn FnMut(&str)) -> Tally {
     let mut random = Random(seed);
-    // pairs of sheets, and sheets with lines of code 7, have numbers of their own, so that the other cases stay what they were
+    // pairs of sheets, sheets with lines of code 7, and sheets of more entrants with the edges of blocks have numbers of their own, so that the other
+    // cases stay what they were
     let mut of_pairs = Random(!seed);
     let mut of_differences = Random(seed.rotate_left(32));
+    let mut of_wide = Random(seed.rotate_left(16));
     let mut tally = Tally::default();
     for case in samples::cases() {
         take(&case, other, &mut tally, say);
@@ -38,7 +41,8 @@ pub fn run(other: &dyn Calls, seed: u64, calls: u64, say: &mut dyn FnMut(&str)) 
     while tally.calls < calls {
         let pairs = if of_pairs.chance(30) { combining::cases(&mut of_pairs, 0) } else { Vec::new() };
         let differences = if of_differences.chance(30) { differences::cases(&mut of_differences) } else { Vec::new() };
-        for case in batch(&mut random).into_iter().chain(pairs).chain(differences) {
+        let wide = if of_wide.chance(30) { wide::cases(&mut of_wide) } else { Vec::new() };
+        for case in batch(&mut random).into_iter().chain(pairs).chain(differences).chain(wide) {
             take(&case, other, &mut tally, say);
         }
         if Instant::now() >= next_word {
@@ -196,9 +200,9 @@ pub fn blocks_case(random: &mut Random, sheet: &[u8]) -> Case {
     let length = settled(sheet).map_or(100, |settled| listing(&Encoding::of(&settled)).len());
     let few = (length / random.from_to(1, 6)).max(1);
     let mut rooms: Vec<usize> = (0..random.from_to(1, 4)).map(|_| random.below(few + 1)).collect();
-    rooms.push(random.pick(&[length, length, 32_768, 32_767, length.saturating_sub(1)]));
+    rooms.push(random.pick(&[length, length, BLOCK_BYTES, BLOCK_BYTES - 1, length.saturating_sub(1)]));
     rooms.push(random.pick(&[0, 10, length]));
-    Case::Blocks { sheet: sheet.to_vec(), rooms }
+    Case::Blocks { sheet: sheet.to_vec(), from: 0, rooms }
 }
 
 fn lines_case(random: &mut Random) -> Case {
@@ -242,9 +246,10 @@ mod tests {
     use super::super::calls::{combined, Counterpart, Lent};
     use super::super::code_7;
     use super::*;
+    use crate::encode::Part;
     use crate::model::Model;
     use crate::sheet::{read, write};
-    use crate::steps::{counters, dropped, form, put_in, Node, Printed, Value};
+    use crate::steps::{counters, dropped, form, put_in, Counter, Node, Outputs, Printed, Value};
     use crate::words::{from_words, group_at, FIRST_GROUP, FIRST_LINE};
 
     const CALLS: u64 = 20_000;
@@ -259,9 +264,8 @@ mod tests {
     fn no_difference_from_itself_and_every_kind_is_met() {
         let (tally, text) = outcome(&Counterpart, 3 * CALLS);
         assert!(tally.failed.is_empty(), "{text}");
-        for kind in kinds() {
-            assert!(tally.met.contains_key(kind), "never met: {kind}");
-        }
+        let never: Vec<Kind> = kinds().filter(|kind| !tally.met.contains_key(kind)).collect();
+        assert!(never.is_empty(), "never met: {never:?}");
         assert_eq!(tally.met.len(), kinds().count(), "a kind that is not in the list");
     }
 
@@ -274,6 +278,8 @@ mod tests {
         close: fn(&[u8], u32, &[u8], &mut [u64]) -> u32,
         fill: fn(&[u8], &[u64], &mut [u8]) -> u32,
         blocks: fn(&[u8], u32, &mut [u8]) -> u64,
+        block_count: fn(&[u8]) -> u64,
+        block_count_model: fn(&[u64]) -> u32,
         settle_model: fn(&[u64], &mut [u64]) -> u64,
         block_model: fn(&[u64], u32, &mut [u8]) -> u64,
         close_model: fn(&[u64], u32, &[u8], &mut [u64]) -> u32,
@@ -292,6 +298,8 @@ mod tests {
         close: |sheet, closed, marks, groups| Counterpart.close(sheet, closed, marks, groups),
         fill: |sheet, groups, marks| Counterpart.fill(sheet, groups, marks),
         blocks: |sheet, block, buffer| Counterpart.blocks(sheet, block, buffer),
+        block_count: |sheet| Counterpart.block_count(sheet),
+        block_count_model: |words| Counterpart.block_count_model(words),
         settle_model: |words, table| Counterpart.settle_model(words, table),
         block_model: |words, block, buffer| Counterpart.block_model(words, block, buffer),
         close_model: |words, closed, marks, groups| Counterpart.close_model(words, closed, marks, groups),
@@ -323,6 +331,12 @@ mod tests {
         }
         fn blocks(&self, sheet: &[u8], block: u32, buffer: &mut [u8]) -> u64 {
             (self.blocks)(sheet, block, buffer)
+        }
+        fn block_count(&self, sheet: &[u8]) -> u64 {
+            (self.block_count)(sheet)
+        }
+        fn block_count_model(&self, words: &[u64]) -> u32 {
+            (self.block_count_model)(words)
         }
         fn settle_model(&self, words: &[u64], table: &mut [u64]) -> u64 {
             (self.settle_model)(words, table)
@@ -449,14 +463,22 @@ mod tests {
         is_caught(Broken { block, ..SOUND }, "block: buffer longer", "block 0");
     }
 
-    /// A block, its counter made by steps of which the first two are `put`.
-    fn by_steps(sheet: &[u8], block: u32, buffer: &mut [u8], put: fn(&Node, u32, u32) -> [[Value; 3]; 2]) -> u64 {
-        let counters = settled(sheet).map_or(Vec::new(), |settled| counters(&settled.model().groups));
-        let Some(Some(counter)) = counters.get((block as usize).wrapping_sub(1)) else { return Counterpart.block(sheet, block, buffer) };
-        let at = |node: &Node, (p, q)| put(node, p, q).into_iter().filter_map(dropped).collect::<Vec<_>>();
-        let mut clauses: Vec<Vec<i32>> = counter.nodes.iter().flat_map(|node| node.places().flat_map(move |place| at(node, place))).collect();
-        clauses.extend(counter.units());
-        let text = steps::text(&clauses);
+    /// The counter that a block belongs to, where it is a node's, and the node's place in the tree.
+    fn counter_of(sheet: &[u8], block: u32) -> Option<(Counter, usize)> {
+        let mut counters = settled(sheet).map_or(Vec::new(), |settled| counters(&settled.model().groups));
+        let mut at = (block as usize).checked_sub(1)?;
+        let index = counters.iter().position(|counter| {
+            let nodes = counter.as_ref().map_or(0, |counter| counter.nodes.len());
+            let here = at < nodes;
+            at -= if here { 0 } else { nodes };
+            here
+        })?;
+        Some((counters.swap_remove(index)?, at))
+    }
+
+    /// Clauses as a block's answer.
+    fn answered(clauses: &[Vec<i32>], buffer: &mut [u8]) -> u64 {
+        let text = steps::text(clauses);
         match buffer.get_mut(..text.len()) {
             Some(start) => start.copy_from_slice(text.as_bytes()),
             None => return 24 << 32,
@@ -464,7 +486,18 @@ mod tests {
         text.len() as u64
     }
 
-    const PAIR: &str = "each counter by its steps\n   1   2   1   0\n   2   1   1   2   1   1\n";
+    /// A block, its node made by steps of which the first two are `put`.
+    fn by_steps(sheet: &[u8], block: u32, buffer: &mut [u8], put: fn(&Node, u32, u32) -> [[Value; 3]; 2]) -> u64 {
+        let Some((counter, at)) = counter_of(sheet, block) else { return Counterpart.block(sheet, block, buffer) };
+        let node = counter.nodes[at];
+        let mut clauses: Vec<Vec<i32>> = node.places().flat_map(|(p, q)| put(&node, p, q).into_iter().filter_map(dropped)).collect();
+        if at + 1 == counter.nodes.len() {
+            clauses.extend(counter.units());
+        }
+        answered(&clauses, buffer)
+    }
+
+    const PAIR: &str = "each node by its steps\n   1   2   1   0\n   2   1   1   2   1   1\n";
 
     #[test]
     fn a_down_clause_with_p_for_p_plus_1_is_caught() {
@@ -600,11 +633,11 @@ mod tests {
         is_caught(Broken { settle, ..SOUND }, "settle: 24 table a word short", "difference in settle: 24");
     }
 
-    /// What a run of blocks did before: it stopped where fewer than 32,768 bytes were left, and answered 0.
+    /// What a run of blocks did before: it stopped where fewer bytes were left than hold each block, and answered 0.
     #[test]
     fn a_run_that_stops_though_the_block_fits_is_caught() {
         let blocks = |sheet: &[u8], block, buffer: &mut [u8]| match buffer.len() {
-            0..32_768 => u64::from(block) << 32,
+            0..BLOCK_BYTES => u64::from(block) << 32,
             _ => Counterpart.blocks(sheet, block, buffer),
         };
         is_caught(Broken { blocks, ..SOUND }, "blocks: several blocks", "runs of blocks");
@@ -784,16 +817,11 @@ mod tests {
         if !(1..=encoding.blocks()).contains(&(block as usize)) {
             return Counterpart.block(sheet, block, buffer);
         }
-        let line = (block as usize).checked_sub(model.groups.len() + 1).map(|index| &model.constraints[index]);
+        let seven = matches!(encoding.part(block as usize), Part::Line(index) if model.constraints[index].code == 7);
         let mut clauses = Vec::new();
         encoding.each_clause(block as usize, &mut |clause| clauses.push(clause.to_vec()));
-        change(&encoding, line.is_some_and(|line| line.code == 7), &mut clauses);
-        let text = steps::text(&clauses);
-        match buffer.get_mut(..text.len()) {
-            Some(start) => start.copy_from_slice(text.as_bytes()),
-            None => return 24 << 32,
-        }
-        text.len() as u64
+        change(&encoding, seven, &mut clauses);
+        answered(&clauses, buffer)
     }
 
     /// The last variable that is no X.
@@ -949,5 +977,108 @@ mod tests {
             })
         };
         is_caught(Broken { combine_model, ..SOUND }, "different: combine words, a count of code 7", "words at 1028");
+    }
+
+    #[test]
+    fn units_in_every_nodes_block_are_caught() {
+        let block = |sheet: &[u8], block, buffer: &mut [u8]| {
+            let Some((counter, at)) = counter_of(sheet, block) else { return Counterpart.block(sheet, block, buffer) };
+            let node = counter.nodes[at];
+            let mut clauses: Vec<Vec<i32>> = node.places().flat_map(|(p, q)| node.clauses(p, q)).collect();
+            clauses.extend(counter.units());
+            answered(&clauses, buffer)
+        };
+        let smallest = "each node by its steps\n   1   3   1   0\n   2   1";
+        is_caught(Broken { block, ..SOUND }, "block: node below the root", "difference in block: node below the root");
+        is_caught(Broken { block, ..SOUND }, "steps: node below the root", smallest);
+    }
+
+    #[test]
+    fn a_right_half_numbered_from_the_left_ones_outputs_is_caught() {
+        let block = |sheet: &[u8], block, buffer: &mut [u8]| {
+            let Some((counter, at)) = counter_of(sheet, block) else { return Counterpart.block(sheet, block, buffer) };
+            let mut node = counter.nodes[at];
+            if node.c.size > 1 && node.d.size > 1 {
+                node.d = Outputs { first: node.c.first, ..node.d };
+            }
+            let mut clauses: Vec<Vec<i32>> = node.places().flat_map(|(p, q)| node.clauses(p, q)).collect();
+            clauses.extend(if at + 1 == counter.nodes.len() { counter.units() } else { Vec::new() });
+            answered(&clauses, buffer)
+        };
+        let smallest = "each node by its steps\n   1   4   1   0\n   2   1";
+        is_caught(Broken { block, ..SOUND }, "steps: node over two nodes", smallest);
+    }
+
+    #[test]
+    fn a_reader_that_takes_97_groups_of_33_entrants_is_caught() {
+        let read = |sheet: &[u8]| match Counterpart.read(sheet) {
+            answer if answer == 7 << 16 | 1 && sheet.starts_with(b"   1  33  97") => 0,
+            answer => answer,
+        };
+        is_caught(Broken { read, ..SOUND }, "wide: 7 33 entrants and 97 groups", "difference in read: 7 range");
+        let settle_model = |words: &[u64], table: &mut [u64]| match Counterpart.settle_model(words, table) {
+            answer if answer >> 16 == 20 && words[..2] == [33, 97] => 1,
+            answer => answer,
+        };
+        is_caught(Broken { settle_model, ..SOUND }, "wide: model, 20 33 entrants and 97 groups", "of a model");
+    }
+
+    /// Lines leave entrant 64 as the sheet has it.
+    #[test]
+    fn a_mask_short_of_entrant_64_is_caught() {
+        let settle = |sheet: &[u8], table: &mut [u64]| {
+            let answer = Counterpart.settle(sheet, table);
+            if let (true, Ok(model)) = (answer >> 16 == 0, read(sheet)) {
+                for (row, group) in table.chunks_exact_mut(4).zip(&model.groups) {
+                    row[0] = row[0] & !LAST | group.fixed & LAST;
+                    row[1] = row[1] & !LAST | group.possible & LAST;
+                }
+            }
+            answer
+        };
+        is_caught(Broken { settle, ..SOUND }, "wide: settle, entrant 64 becomes fixed", "table at");
+        is_caught(Broken { settle, ..SOUND }, "different: settle, rule on entrant 64", "table at");
+    }
+
+    const LAST: u64 = 1 << 63;
+
+    #[test]
+    fn closing_that_forgets_entrant_64_is_caught() {
+        let close = |sheet: &[u8], closed, marks: &[u8], groups: &mut [u64]| {
+            let answer = Counterpart.close(sheet, closed, marks, groups);
+            if answer == 0 {
+                groups.iter_mut().take(256).for_each(|set| *set &= !LAST);
+            }
+            answer
+        };
+        is_caught(Broken { close, ..SOUND }, "wide: close, entrant 64 in a group", "groups at");
+    }
+
+    /// What the numbers were before: a block a group, with or without a counter.
+    #[test]
+    fn blocks_counted_by_groups_are_caught() {
+        let block_count = |sheet: &[u8]| match (Counterpart.block_count(sheet), settled(sheet)) {
+            (_, Ok(settled)) => (settled.model().groups.len() + settled.model().constraints.len()) as u64,
+            (answer, _) => answer,
+        };
+        is_caught(Broken { block_count, ..SOUND }, "count: nodes and lines", "number of blocks\n");
+    }
+
+    #[test]
+    fn a_model_that_is_settled_before_its_blocks_are_counted_is_caught() {
+        let block_count_model = |words: &[u64]| match from_words(words).ok().and_then(crate::settle::settle) {
+            Some(settled) => Encoding::of(&settled).blocks() as u32,
+            None => Counterpart.block_count_model(words),
+        };
+        is_caught(Broken { block_count_model, ..SOUND }, "count words: not settled", "Count of a model");
+    }
+
+    #[test]
+    fn a_run_that_starts_a_block_too_late_is_caught() {
+        let blocks = |sheet: &[u8], block: u32, buffer: &mut [u8]| match block {
+            0 => Counterpart.blocks(sheet, 0, buffer),
+            _ => Counterpart.blocks(sheet, block.saturating_add(1), buffer),
+        };
+        is_caught(Broken { blocks, ..SOUND }, "edge: run from the next tree's first node", "runs of blocks from");
     }
 }

@@ -9,10 +9,11 @@ pub struct Sample {
     pub draw: Option<Vec<u64>>,
 }
 
-struct Size {
-    entrants: u32,
-    groups: usize,
-    lines: usize,
+/// How many entrants, groups and lines; of lines it may come to fewer.
+pub struct Size {
+    pub entrants: u32,
+    pub groups: usize,
+    pub lines: usize,
 }
 
 /// A sheet with lines of codes 1 to 6.
@@ -29,9 +30,14 @@ pub fn with_code_7(random: &mut Random) -> Sample {
 /// `sevens`: of a hundred lines so many have code 7.
 fn sample(random: &mut Random, sevens: usize) -> Sample {
     let size = size(random);
+    of_size(random, &size, sevens)
+}
+
+/// A sheet of this size.
+pub fn of_size(random: &mut Random, size: &Size, sevens: usize) -> Sample {
     let planted = random.chance(60);
     let mut sets: Vec<u64> = (0..size.groups).map(|_| random_set(random, size.entrants)).collect();
-    let constraints = lines(random, &size, &mut sets, planted, sevens);
+    let constraints = lines(random, size, &mut sets, planted, sevens);
     let style = Style::any(random);
     let groups = sets.iter().map(|&set| style.group(random, size.entrants, set, planted)).collect();
     let model = Model { entrants: size.entrants, groups, constraints };
@@ -48,14 +54,19 @@ pub struct Pair {
 pub fn pair(random: &mut Random, sevens: usize) -> Pair {
     let mut size = size(random);
     match random.below(50) {
-        0 => (size.entrants, size.groups) = (ENTRANTS, GROUPS as usize),
+        0 => (size.entrants, size.groups) = (NARROW_ENTRANTS, GROUPS as usize),
         1 | 2 => size.groups = GROUPS as usize,
-        3..=5 => size.entrants = ENTRANTS,
+        3..=5 => size.entrants = NARROW_ENTRANTS,
         _ => {}
     }
+    pair_of_size(random, &size, sevens)
+}
+
+/// A pair of this size.
+pub fn pair_of_size(random: &mut Random, size: &Size, sevens: usize) -> Pair {
     let planted = random.chance(60);
     let mut sets: Vec<u64> = (0..size.groups).map(|_| random_set(random, size.entrants)).collect();
-    let (ones, others) = lines(random, &size, &mut sets, planted, sevens).into_iter().partition(|_| random.chance(50));
+    let (ones, others) = lines(random, size, &mut sets, planted, sevens).into_iter().partition(|_| random.chance(50));
     let models = [ones, others].map(|constraints| {
         let style = Style::any(random);
         let groups = sets.iter().map(|&set| style.group(random, size.entrants, set, planted)).collect();
@@ -70,7 +81,7 @@ fn size(random: &mut Random) -> Size {
         100..=159 => (8, 20, 10),
         160..=195 => (32, 40, 40),
         196..=198 => (32, 256, 256),
-        _ => return Size { entrants: ENTRANTS, groups: GROUPS as usize, lines: LINES as usize },
+        _ => return Size { entrants: NARROW_ENTRANTS, groups: GROUPS as usize, lines: LINES as usize },
     };
     Size { entrants: random.from_to(1, entrants) as u32, groups: random.from_to(1, groups), lines: random.from_to(0, lines) }
 }
@@ -164,7 +175,7 @@ impl Style {
 
     /// A group that allows `set`, or without a draw one whose marks may be anything.
     fn group(&self, random: &mut Random, entrants: u32, set: u64, planted: bool) -> Group {
-        let everyone = (1 << entrants) - 1;
+        let everyone = first_entrants(entrants);
         let fixed = set & random.set(entrants, self.fixed);
         let out = random.set(entrants, self.barred) & if planted { !set } else { !fixed };
         let (low, high) = self.limits(random, entrants, set.count_ones());

@@ -1,10 +1,10 @@
-//! Sheets with trees of every size, and the block of each counter cut place by place: there stands what the last of the printed steps leaves.
+//! Sheets with trees of every size, and the block of each node cut place by place: there stands what the last of the printed steps leaves.
 use super::calls::{settled, Calls};
 use super::case::{junk, Kind, Outcome};
 use super::code_7::has_x;
 use super::random::Random;
 use crate::encode::Encoding;
-use crate::model::{Group, Model, ENTRANTS};
+use crate::model::{Group, Model, BLOCK_BYTES, ENTRANTS, NARROW_ENTRANTS};
 use crate::sheet;
 use crate::steps::{counters, Counter, Node};
 
@@ -12,8 +12,11 @@ macro_rules! trees {
     ($($size:literal)*) => { [$(concat!("steps: tree of ", $size)),*] };
 }
 
-/// By the size of the tree, from 2 to 32.
-const TREES: [Kind; 31] = trees![2 3 4 5 6 7 8 9 10 11 12 13 14 15 16 17 18 19 20 21 22 23 24 25 26 27 28 29 30 31 32];
+/// By the size of the tree, from 2 to 64.
+const TREES: [Kind; 63] = trees![
+    2 3 4 5 6 7 8 9 10 11 12 13 14 15 16 17 18 19 20 21 22 23 24 25 26 27 28 29 30 31 32 33 34 35 36 37 38 39 40 41 42 43 44 45 46 47 48 49 50 51 52 53 54 55
+    56 57 58 59 60 61 62 63 64
+];
 
 /// By what is there, in the order of the report.
 const KINDS: &[Kind] = &[
@@ -42,25 +45,32 @@ pub fn kinds() -> impl Iterator<Item = Kind> {
     TREES.into_iter().chain(KINDS.iter().copied())
 }
 
-/// One call a counter. A difference is one in the piece where it shows and in the whole tree.
+/// One call a node, those of a tree counted as one. A difference is one in the piece where it shows and in the whole tree.
 pub fn check(sheet: &[u8], other: &dyn Calls, outcome: &mut Outcome) {
     let Ok(settled) = settled(sheet) else { return };
-    let counters = counters(&settled.model().groups);
+    let counters: Vec<Counter> = counters(&settled.model().groups).into_iter().flatten().collect();
     let with_x = has_x(&Encoding::of(&settled));
-    let blocks = || counters.iter().zip(1..).filter_map(|(counter, block)| Some((block, counter.as_ref()?)));
-    outcome.calls = blocks().count() as u64;
-    for (before, (block, counter)) in blocks().enumerate() {
-        let mut buffer = junk(32_768);
-        let answer = other.block(sheet, block, &mut buffer);
-        let written = buffer.get(..answer as usize).unwrap_or_default();
-        let same = cut(written, &pieces(counter), outcome);
+    outcome.calls = counters.len() as u64;
+    let (mut block, mut buffer) = (1, junk(BLOCK_BYTES));
+    for (before, counter) in counters.iter().enumerate() {
+        let mut same = Ok(());
+        for (node, pieces) in (block..).zip(node_pieces(counter)) {
+            same = same.and_then(|()| cut(written(sheet, node, &mut buffer, other), &pieces, outcome).map_err(|words| format!("block {node}, {words}")));
+        }
+        block += counter.nodes.len() as u32;
         outcome.note(if before == 0 { "steps: first counter of the sheet" } else { "steps: later counter" });
         outcome.note(TREES[counter.root().n.size as usize - 2]);
         outcome.kinds.extend(with_x.then_some("different: counters by their steps"));
         if let Err(words) = same {
-            outcome.differ(format!("block {block}, {words}"));
+            outcome.differ(words);
         }
     }
+}
+
+/// What a block has on the other side; nothing where it is refused.
+fn written<'a>(sheet: &[u8], block: u32, buffer: &'a mut [u8], other: &dyn Calls) -> &'a [u8] {
+    let answer = other.block(sheet, block, buffer);
+    buffer.get(..answer as usize).unwrap_or_default()
 }
 
 /// The pieces stand one behind the other, each where the text of those before it ends, and nothing is behind the last. Stops at the first difference.
@@ -79,7 +89,7 @@ fn cut(written: &[u8], pieces: &[Piece], outcome: &mut Outcome) -> Result<(), St
     }
     match rest.len() {
         0 => Ok(()),
-        more => Err(format!("{more} bytes behind the units")),
+        more => Err(format!("{more} bytes behind the last clause")),
     }
 }
 
@@ -90,19 +100,21 @@ struct Piece {
     kinds: Vec<Kind>,
 }
 
-/// Node by node in the tree's order, p by p, q by q; after the last node come the units.
-fn pieces(counter: &Counter) -> Vec<Piece> {
-    let mut pieces = Vec::new();
-    for node in &counter.nodes {
-        let of_node = node_kinds(node, counter.root());
-        for (p, q) in node.places() {
-            let what = format!("node of {}, p = {p}, q = {q},", node.n.size);
-            let kinds = [&place_kinds(node, p, q)[..], &of_node].concat();
-            pieces.push(Piece { what, clauses: node.clauses(p, q), kinds });
-        }
-    }
-    pieces.push(Piece { what: "units".to_string(), clauses: counter.units(), kinds: vec![units_kind(counter)] });
-    pieces
+/// Node by node in the tree's order, p by p, q by q; after the root's come the units.
+fn node_pieces(counter: &Counter) -> Vec<Vec<Piece>> {
+    let mut nodes: Vec<Vec<Piece>> = counter.nodes.iter().map(|node| pieces(node, counter.root())).collect();
+    let units = Piece { what: "units".to_string(), clauses: counter.units(), kinds: vec![units_kind(counter)] };
+    nodes.last_mut().expect("a node").push(units);
+    nodes
+}
+
+fn pieces(node: &Node, root: &Node) -> Vec<Piece> {
+    let of_node = node_kinds(node, root);
+    let piece = |(p, q)| {
+        let what = format!("node of {}, p = {p}, q = {q},", node.n.size);
+        Piece { what, clauses: node.clauses(p, q), kinds: [&place_kinds(node, p, q)[..], &of_node].concat() }
+    };
+    node.places().map(piece).collect()
 }
 
 /// "A clause is its literals (minus sign for negation) each followed by one space, then `0` and byte 10."
@@ -147,10 +159,32 @@ fn units_kind(counter: &Counter) -> Kind {
     }
 }
 
-/// A sheet of a few groups, each with a counter.
+/// A sheet of a few groups, each with a counter, of at most 32 entrants.
 pub fn sheet(random: &mut Random) -> Vec<u8> {
-    let sizes: Vec<usize> = (0..random.from_to(1, 5)).map(|_| random.from_to(2, ENTRANTS as usize)).collect();
-    let entrants = random.from_to(sizes.iter().copied().max().unwrap_or(2), ENTRANTS as usize) as u32;
+    let most = NARROW_ENTRANTS as usize;
+    let sizes: Vec<usize> = (0..random.from_to(1, 5)).map(|_| random.from_to(2, most)).collect();
+    let entrants = random.from_to(sizes.iter().copied().max().unwrap_or(2), most) as u32;
+    of_sizes(random, entrants, &sizes)
+}
+
+/// The same of more entrants.
+pub fn wide(random: &mut Random) -> Vec<u8> {
+    let sizes: Vec<usize> = (0..random.from_to(1, 2)).map(|_| random.from_to(2, ENTRANTS as usize)).collect();
+    let least = sizes.iter().copied().max().unwrap_or(2).max(NARROW_ENTRANTS as usize + 1);
+    let entrants = random.from_to(least, ENTRANTS as usize) as u32;
+    of_sizes(random, entrants, &sizes)
+}
+
+/// A tree of every second size above 32, the even or the odd ones, in any order.
+pub fn large(random: &mut Random) -> Vec<u8> {
+    let first = NARROW_ENTRANTS as usize + 1 + random.below(2);
+    let mut sizes: Vec<usize> = (first..=ENTRANTS as usize).step_by(2).collect();
+    random.shuffle(&mut sizes);
+    of_sizes(random, ENTRANTS, &sizes)
+}
+
+/// Groups with so many open entrants each.
+fn of_sizes(random: &mut Random, entrants: u32, sizes: &[usize]) -> Vec<u8> {
     let groups = sizes.iter().map(|&size| group(random, entrants, size)).collect();
     sheet::write(&Model { entrants, groups, constraints: Vec::new() })
 }
@@ -178,11 +212,13 @@ mod tests {
     use super::*;
     use crate::listing::write_block;
 
+    const MAKERS: [fn(&mut Random) -> Vec<u8>; 3] = [sheet, wide, large];
+
     #[test]
     fn every_group_keeps_its_open_entrants_and_has_a_counter() {
         let mut random = Random(41);
-        for _ in 0..500 {
-            let sheet = sheet(&mut random);
+        for make in MAKERS.repeat(200) {
+            let sheet = make(&mut random);
             let model = sheet::read(&sheet).unwrap();
             let settled = settled(&sheet).unwrap();
             let sizes = |groups: &[Group]| groups.iter().map(|group| group.open().count_ones()).collect::<Vec<_>>();
@@ -191,16 +227,18 @@ mod tests {
         }
     }
 
-    /// The pieces together are the block that the listing has.
+    /// The pieces of each node together are the block that the listing has.
     #[test]
-    fn the_steps_make_the_whole_block() {
+    fn the_steps_make_each_block() {
         let mut random = Random(42);
-        for _ in 0..200 {
-            let settled = settled(&sheet(&mut random)).unwrap();
+        for make in MAKERS.repeat(20) {
+            let settled = settled(&make(&mut random)).unwrap();
             let encoding = Encoding::of(&settled);
-            for (counter, block) in counters(&settled.model().groups).iter().flatten().zip(1..) {
-                let made: String = pieces(counter).iter().map(|piece| text(&piece.clauses)).collect();
-                let mut buffer = [0; 32_768];
+            let blocks: Vec<Vec<Piece>> = counters(&settled.model().groups).iter().flatten().flat_map(node_pieces).collect();
+            assert_eq!(blocks.len(), encoding.blocks());
+            let mut buffer = vec![0; BLOCK_BYTES];
+            for (pieces, block) in blocks.iter().zip(1..) {
+                let made: String = pieces.iter().map(|piece| text(&piece.clauses)).collect();
                 let length = write_block(&encoding, block, &mut buffer).unwrap();
                 assert_eq!(made.as_bytes(), &buffer[..length]);
             }

@@ -3,7 +3,7 @@ use super::blanks::rewritten;
 use super::calls::Calls;
 use super::case::{junk, junk_words, show_sheet, Case, Kind, Outcome};
 use super::random::Random;
-use crate::model::GROUPS;
+use crate::model::{BLOCK_BYTES, GROUPS};
 use crate::sheet::read;
 
 /// Sheets that are read, by their refusal.
@@ -21,7 +21,7 @@ const READ: [Kind; 10] = [
 ];
 
 /// Sheets in the other calls that take one, accepted and refused.
-const OTHERS: [[Kind; 2]; 7] = [
+const OTHERS: [[Kind; 2]; 8] = [
     ["twins: settle", "twins: settle, sheet refused"],
     ["twins: block", "twins: block, sheet refused"],
     ["twins: blocks", "twins: blocks, sheet refused"],
@@ -29,6 +29,7 @@ const OTHERS: [[Kind; 2]; 7] = [
     ["twins: fill", "twins: fill, sheet refused"],
     ["twins: certify", "twins: certify, sheet refused"],
     ["twins: combine", "twins: combine, first sheet refused"],
+    ["twins: count", "twins: count, sheet refused"],
 ];
 
 pub fn kinds() -> impl Iterator<Item = Kind> {
@@ -87,6 +88,7 @@ impl TwinCase {
             Case::Fill(_) => 4,
             Case::Certificate(_) => 5,
             Case::Combine(_) => 6,
+            Case::Count { .. } => 7,
             _ => return READ[refusal],
         };
         OTHERS[call][usize::from(refusal > 0)]
@@ -112,13 +114,14 @@ fn answer(case: &Case, other: &dyn Calls) -> Vec<u64> {
             words(other.settle(sheet, &mut table), table)
         }
         Case::Block { sheet, block, .. } => {
-            let mut buffer = junk(32_768);
+            let mut buffer = junk(BLOCK_BYTES);
             bytes(other.block(sheet, *block, &mut buffer), buffer)
         }
-        Case::Blocks { sheet, rooms } => {
+        Case::Blocks { sheet, from, rooms } => {
             let mut buffer = junk(rooms.iter().copied().max().unwrap_or(0));
-            bytes(other.blocks(sheet, 0, &mut buffer), buffer)
+            bytes(other.blocks(sheet, *from, &mut buffer), buffer)
         }
+        Case::Count { sheet } => vec![other.block_count(sheet)],
         Case::Close { sheet, closed, marks, room } => {
             let mut groups = junk_words(*room);
             words(other.close(sheet, (*closed).into(), marks, &mut groups).into(), groups)

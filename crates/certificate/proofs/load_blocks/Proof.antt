@@ -4,9 +4,8 @@ use mathlib.Core.Path.{refl, _∙_}
 use native.Mathlib.Omega.{arith}
 use borrow.Author.Needs.{needs}
 use lib.ListN.{length-take}
-use Rattle.certificate.proofs.Runs.{LoadedTo, part-loads}
+use Rattle.certificate.proofs.Runs.{LoadedTo, last-is, part-loads}
 use Rattle.cnf.proofs.Runs.{run-inside}
-use Rattle.model.specs.Cnf.{blockCount}
 use Rattle.certificate.proofs.load_blocks.Statement.{statement}
 use Rattle.certificate.proofs.load_blocks.Tie as tie
 
@@ -17,7 +16,7 @@ abbrev μ-loop : tie.MeasureT-loop
 μ-loop m b text₀ store₀ index₀ marks₀ last q₀ x₀ text store index marks q x = last + 1 - x
 
 loop-holds : tie.Need-loop-holds Inv-loop μ-loop
-loop-holds c = record { from = c .before .before .before .before .before .before .pre; fits = search needs; bytes = refl; words = refl; numbers = refl; literals = refl; holds = λ q a t h. h }
+loop-holds c = record { from = c .before .before .before .before .before .pre; fits = search needs; bytes = refl; words = refl; numbers = refl; literals = refl; holds = λ q a t h. h }
 
 returns : tie.Need-returns Inv-loop μ-loop
 returns c = λ q a t h. c .not-loaded .ensures a _ _ _ (c .before .before .before .before .before .before .before .before .loop .inv .holds q a t h)
@@ -36,19 +35,18 @@ slice-aggregate-load c =
     omega (arith, length-take (w .result .length) (w .last .1 .1 .0), run-inside _ _ _ _ _ (w .ensures .0) (w .ensures .1 .0) (w .kept .1 .1 .0), w .kept .1 .1 .0)
 
 loop-again : tie.Need-loop-again Inv-loop μ-loop
-unfolding blockCount
 loop-again c =
     let l = c .before .before .before .before .before .before .load in
     let w = c .before .before .before .before .before .before .before .before .before .before .before .before .before .before .before .before .before .write-blocks in
     let inv = c .before .before .before .before .before .before .before .before .before .before .before .before .before .before .before .before .before .before .before .before .loop .inv in
     record {
       from = omega (arith, c .before .before .before .before .before .before .before .before .before .before .before .if2 .left, inv .from);
-      fits = c .before .before .before .before .before .before .before .before .before .before .before .before .before .before .struct-known3 .given .1 .0 .fits;
+      fits = c .before .before .before .before .before .before .before .before .before .before .before .before .before .before .struct-known .given .1 .0 .fits;
       bytes = w .kept .1 .1 .0 ∙ inv .bytes;
       words = search needs;
       numbers = search needs;
       literals = search needs;
-      holds = λ q a t h. l .ensures a _ (part-loads _ q _ (inv .from) (omega (arith, c .before .before .before .before .before .before .before .before .before .before .before .before .before .before .before .before .before .before .before .loop-test .taken)) _ _ _ (w .ensures .0) (w .ensures .1 .0) a t) (inv .holds q a t h);
+      holds = λ q a t h. l .ensures a _ (part-loads _ q _ (inv .from) (omega (arith, c .before .before .before .before .before .before .before .before .before .before .before .before .before .before .before .before .before .before .before .loop-test .taken, last-is (c .before .before .before .before .before .before .before .before .before .before .before .before .before .before .before .before .before .before .before .before .before .before .before .before .before .before .args .m) q _ (c .before .before .before .before .before .before .before .before .before .before .before .before .before .before .before .before .before .before .before .before .before .block-count .ensures .0))) _ _ _ (w .ensures .0) (w .ensures .1 .0) a t) (inv .holds q a t h);
     }
 
 returns-3 : tie.Need-returns-3 Inv-loop μ-loop
@@ -60,11 +58,8 @@ load-blocks-spec =
     (tie.spec
     Inv-loop
     μ-loop
-    (λ c. search needs)
-    (λ c. search needs)
-    (λ c. search needs)
+    (λ c κs. search needs)
     loop-holds
-    (λ c. search needs)
     (λ c κs. search needs)
     (λ c κs. search needs)
     (λ c. search needs)

@@ -1,5 +1,6 @@
 -- `head_refusal` judges the head. Assumes nothing.
 use Rattle.model.specs.Sheet.{headRefusal}
+use Rattle.model.proofs.Width.{over, under}
 use borrow.Author.Tests.{le-leb, lt-leb, eq-eqb, ne-eqb}
 use borrow.Author.Needs.{needs}
 use Rattle.sheet.proofs.head_refusal.Statement.{statement}
@@ -34,12 +35,15 @@ returns-5 : tie.Need-returns-5
 unfolding headRefusal
 returns-5 c = simp (← (c .before .before .before .before .before .before .before .value .ensures), ← (c .before .before .before .before .value2 .ensures), ← (c .before .value3 .ensures), eq-eqb _ _ (c .before .before .before .before .before .before .if1 .left), eq-eqb _ _ (c .before .before .before .before .before .if2 .left), le-leb _ _ (c .before .before .before .if3 .left), le-leb _ _ (c .before .before .if4 .left), lt-leb _ _ (c .if5 .taken))
 
+groups-for-requires : tie.Need-groups-for-requires
+groups-for-requires c κs = search needs
+
 cast-if6 : tie.Need-cast-if6
 cast-if6 c = search needs
 
 returns-6 : tie.Need-returns-6
 unfolding headRefusal
-returns-6 c = simp (← (c .before .before .before .before .before .before .before .before .value .ensures), ← (c .before .before .before .before .before .value2 .ensures), ← (c .before .before .value3 .ensures), eq-eqb _ _ (c .before .before .before .before .before .before .before .if1 .left), eq-eqb _ _ (c .before .before .before .before .before .before .if2 .left), le-leb _ _ (c .before .before .before .before .if3 .left), le-leb _ _ (c .before .before .before .if4 .left), le-leb _ _ (c .before .if5 .left), lt-leb _ _ (c .if6 .taken))
+returns-6 c = simp (← (c .before .before .before .before .before .before .before .before .before .value .ensures), ← (c .before .before .before .before .before .before .value2 .ensures), ← (c .before .before .before .value3 .ensures), eq-eqb _ _ (c .before .before .before .before .before .before .before .before .if1 .left), eq-eqb _ _ (c .before .before .before .before .before .before .before .if2 .left), le-leb _ _ (c .before .before .before .before .before .if3 .left), le-leb _ _ (c .before .before .before .before .if4 .left), le-leb _ _ (c .before .before .if5 .left), over (c .if6 .taken) (c .before .groups-for .ensures .0))
 
 value-requires-4 : tie.Need-value-requires-4
 value-requires-4 c κs = search needs
@@ -49,11 +53,11 @@ cast-if7 c = search needs
 
 returns-7 : tie.Need-returns-7
 unfolding headRefusal
-returns-7 c = simp (← (c .before .before .before .before .before .before .before .before .before .before .value .ensures), ← (c .before .before .before .before .before .before .before .value2 .ensures), ← (c .before .before .before .before .value3 .ensures), ← (c .before .value4 .ensures), eq-eqb _ _ (c .before .before .before .before .before .before .before .before .before .if1 .left), eq-eqb _ _ (c .before .before .before .before .before .before .before .before .if2 .left), le-leb _ _ (c .before .before .before .before .before .before .if3 .left), le-leb _ _ (c .before .before .before .before .before .if4 .left), le-leb _ _ (c .before .before .before .if5 .left), le-leb _ _ (c .before .before .if6 .left), lt-leb _ _ (c .if7 .taken))
+returns-7 c = simp (← (c .before .before .before .before .before .before .before .before .before .before .before .value .ensures), ← (c .before .before .before .before .before .before .before .before .value2 .ensures), ← (c .before .before .before .before .before .value3 .ensures), ← (c .before .value4 .ensures), eq-eqb _ _ (c .before .before .before .before .before .before .before .before .before .before .if1 .left), eq-eqb _ _ (c .before .before .before .before .before .before .before .before .before .if2 .left), le-leb _ _ (c .before .before .before .before .before .before .before .if3 .left), le-leb _ _ (c .before .before .before .before .before .before .if4 .left), le-leb _ _ (c .before .before .before .before .if5 .left), under (c .before .before .if6 .left) (c .before .before .before .groups-for .ensures .0), lt-leb _ _ (c .if7 .taken))
 
 returns-8 : tie.Need-returns-8
 unfolding headRefusal
-returns-8 c = simp (← (c .before .before .before .before .before .before .before .before .before .before .value .ensures), ← (c .before .before .before .before .before .before .before .value2 .ensures), ← (c .before .before .before .before .value3 .ensures), ← (c .before .value4 .ensures), eq-eqb _ _ (c .before .before .before .before .before .before .before .before .before .if1 .left), eq-eqb _ _ (c .before .before .before .before .before .before .before .before .if2 .left), le-leb _ _ (c .before .before .before .before .before .before .if3 .left), le-leb _ _ (c .before .before .before .before .before .if4 .left), le-leb _ _ (c .before .before .before .if5 .left), le-leb _ _ (c .before .before .if6 .left), le-leb _ _ (c .if7 .left))
+returns-8 c = simp (← (c .before .before .before .before .before .before .before .before .before .before .before .value .ensures), ← (c .before .before .before .before .before .before .before .before .value2 .ensures), ← (c .before .before .before .before .before .value3 .ensures), ← (c .before .value4 .ensures), eq-eqb _ _ (c .before .before .before .before .before .before .before .before .before .before .if1 .left), eq-eqb _ _ (c .before .before .before .before .before .before .before .before .before .if2 .left), le-leb _ _ (c .before .before .before .before .before .before .before .if3 .left), le-leb _ _ (c .before .before .before .before .before .before .if4 .left), le-leb _ _ (c .before .before .before .before .if5 .left), under (c .before .before .if6 .left) (c .before .before .before .groups-for .ensures .0), le-leb _ _ (c .if7 .left))
 
 pub head-refusal-spec : {M : Type 1} → statement M
 head-refusal-spec =
@@ -67,6 +71,7 @@ head-refusal-spec =
     returns-4
     value-requires-3
     returns-5
+    groups-for-requires
     cast-if6
     returns-6
     value-requires-4

@@ -1,23 +1,20 @@
 -- `sheet_length` adds up the three parts, by `sheet-length`. Assumes nothing.
 use mathlib.Core.Path.{_≡_, sym, ap₂, _∙_}
 use Prim.Native.Nat.{ℕ, _+_, _*_, _≤_}
-use native.Mathlib.Nat.{mul-le-mul-left}
 use native.Mathlib.Omega.{arith}
 use borrow.Author.Needs.{needs}
 use lib.Dec.{T}
 use Rattle.model.specs.declared.Model.{Model}
+use Rattle.model.specs.Limits.{limits}
 use Rattle.model.specs.Model.{constraintsOf, inRange}
 use Rattle.propagation_laws.proofs.Ranges.{in-range}
 use Rattle.sheet_writer.specs.Parts.{lineLength}
-use Rattle.sheet_writer.proofs.Lengths.{sheet-length}
+use Rattle.sheet_writer.proofs.Lengths.{sheet-length, groups-bound}
 use Rattle.sheet_writer.proofs.sheet_length.Statement.{statement}
 use Rattle.sheet_writer.proofs.sheet_length.Tie as tie
 
-groups-small : (m : Model) → T (inRange m) → (row : ℕ) → row ≡ lineLength (4 + m .n) → m .s * row ≤ 256 * 145
-groups-small m t row e =
-    let r = in-range m t in
-    let k : row ≤ 145 = omega (arith, r .entrants) in
-    omega (arith, mul-le-mul-left (m .s) k, r .groupCount)
+groups-small : (m : Model) → T (inRange m) → (row : ℕ) → row ≡ lineLength (4 + m .n) → m .s * row ≤ limits .groups * lineLength (4 + limits .narrow)
+groups-small m t row e = rw e (groups-bound m (in-range m t))
 
 cast-constraints-length : tie.Need-cast-constraints-length
 cast-constraints-length c = search needs

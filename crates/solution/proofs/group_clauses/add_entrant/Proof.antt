@@ -1,9 +1,8 @@
 -- `add_entrant` adds one entrant. Assumes nothing.
-use lib.Pow.{pow-lt}
 use Rattle.model.specs.Limits.{limits}
 use Rattle.model.proofs.Words.{shifted}
-use Prim.Native.Nat.{ℕ, _+_, _^_}
-use native.Mathlib.Nat.{add-zero}
+use Prim.Native.Nat.{ℕ, _+_, _-_, _^_}
+use native.Mathlib.Nat.{add-zero, pow-le-pow-right}
 use mathlib.Core.Bool.{Bool, cond}
 use mathlib.Core.Path.{sym, ap, _∙_}
 use native.Mathlib.Omega.{arith}
@@ -18,7 +17,9 @@ shl-result : tie.Need-shl-result
 shl-result c = search needs
 
 add-result : tie.Need-add-result
-add-result c = omega (arith, shifted (c .before .before .before .args .e) (omega arith), (c .before .before .before .pre .1), pow-lt {i = (c .before .before .before .args .e)} {j = limits .entrants} (c .before .before .before .pre .0 .1))
+add-result c =
+    let s = c .before .before .before in
+    omega (arith, shifted (s .args .e) (omega arith), s .pre .1, pow-le-pow-right {n = 2} (omega arith) {i = s .args .e} {j = limits .word - 1} (omega (arith, s .pre .0 .1)))
 
 returns : tie.Need-returns
 returns c = let s = (c .before .before .before) in ap (λ (x : ℕ). s .args .w + x) (shifted (s .args .e) (omega arith)) ∙ sym (ap (λ (b : Bool). s .args .w + cond b (2 ^ s .args .e) 0) (sym (c .before .in-group .ensures) ∙ (c .if1 .taken)))
