@@ -1,4 +1,5 @@
 //! Document 01 in plain Rust, written from the paper alone, to compare the proved code with.
+pub mod agenda;
 pub mod answer;
 pub mod certificate;
 pub mod clauses;

@@ -1,4 +1,5 @@
 //! Settling: group rule and line rule, pass after pass, until nothing changes.
+use crate::agenda::Agenda;
 use crate::clauses::Literal;
 use crate::different::Different;
 use crate::model::{Constraint, Group, Model};
@@ -32,20 +33,23 @@ impl Settled {
     }
 }
 
-/// The settled model; none stands for refusal 21.
+/// The settled model; none stands for refusal 21. The first pass applies every rule, later ones those that are due: the others would change nothing.
+/// A contradiction stays one, so it is looked for at the end, and after 2, 4, 8, .. passes, for a sheet that has one need not settle first.
 pub fn settle(mut model: Model) -> Option<Settled> {
     let everyone = model.everyone();
-    let mut passes = 0;
-    loop {
-        let changed = pass(everyone, &mut model.groups, &model.constraints);
-        passes += 1;
-        if contradictory(&model.groups, &model.constraints) {
-            return None;
-        }
-        if !changed {
-            return Some(Settled { model, passes });
+    let mut passes = 1;
+    if pass(everyone, &mut model.groups, &model.constraints) {
+        let mut agenda = Agenda::full(model.groups.len(), &model.constraints);
+        while {
+            passes += 1;
+            agenda.pass(everyone, &mut model.groups, &model.constraints)
+        } {
+            if passes & (passes - 1) == 0 && contradictory(&model.groups, &model.constraints) {
+                return None;
+            }
         }
     }
+    (!contradictory(&model.groups, &model.constraints)).then_some(Settled { model, passes })
 }
 
 /// Whether a table is 21 after a pass: an entrant fixed but not possible, low above high, or all settled alike in groups that must not be the same.
@@ -80,7 +84,7 @@ pub(crate) fn group_rules(groups: &mut [Group]) -> bool {
     changed
 }
 
-fn group_rule(group: &mut Group) {
+pub(crate) fn group_rule(group: &mut Group) {
     group.low = group.low.max(group.fixed.count_ones());
     group.high = group.high.min(group.possible.count_ones());
     if group.fixed.count_ones() == group.high {
@@ -218,6 +222,51 @@ mod tests {
         let groups = &settled.model().groups;
         assert!(groups.iter().all(|group| group.open() == settled.model().everyone()), "a mark was settled");
         Some((groups.iter().map(|group| (group.low, group.high)).collect(), settled.passes()))
+    }
+
+    /// The paper's passes, each with every rule and the test of 21 after it.
+    fn plainly(mut model: Model) -> Option<Settled> {
+        for passes in 1.. {
+            let changed = pass(model.everyone(), &mut model.groups, &model.constraints);
+            if contradictory(&model.groups, &model.constraints) {
+                return None;
+            }
+            if !changed {
+                return Some(Settled { model, passes });
+            }
+        }
+        unreachable!("some pass changes nothing")
+    }
+
+    #[test]
+    fn rules_that_are_not_due_would_change_nothing() {
+        let mut state = 1u64;
+        let mut below = |most: u64| {
+            state = state * 48_271 % 2_147_483_647;
+            state % most
+        };
+        let (mut refused, mut longest) = (0, 0);
+        for _ in 0..2_000 {
+            let (n, s) = (1 + below(6) as u32, 3 + below(12) as usize);
+            let groups = (0..s).map(|_| {
+                let possible = (below(64) | below(64)) & first_entrants(n);
+                let low = below(2) as u32;
+                Group { fixed: possible & below(64) & below(64) & below(64), possible, low, high: low + below(n as u64 - low as u64 + 1) as u32 }
+            });
+            let groups: Vec<_> = groups.collect();
+            let lines = (0..below(20)).map(|_| {
+                let code = 1 + below(7) as u32;
+                let first = below(s as u64) as usize;
+                let count = [0, 2, 2, 3, 3, 3, 3, 2][code as usize];
+                Constraint { code, groups: (0..count).map(|i| (first + i * (1 + first % (s / 3))) % s).collect() }
+            });
+            let model = Model { entrants: n, constraints: lines.collect(), groups };
+            let wanted = plainly(model.clone());
+            refused += u32::from(wanted.is_none());
+            longest = longest.max(wanted.as_ref().map_or(0, Settled::passes));
+            assert_eq!(settle(model), wanted);
+        }
+        assert!((1..2_000).contains(&refused) && longest > 4, "{refused} refused, {longest} passes");
     }
 
     #[test]

@@ -1,14 +1,11 @@
 -- What a settled model gives the block writer: each block's text. Assumes nothing.
 use mathlib.Core.Path.{_≡_, sym, ap, _∙_, subst}
 use mathlib.Core.List.{List, [], _∷_}
-use mathlib.Core.Logic.{inl, inr}
 use Prim.Native.Nat.{ℕ, zero, suc, _+_, _-_, _*_, _≤_, _<_}
 use native.Mathlib.Nat.{le-refl, le-trans, mul-le-mul}
 use native.Mathlib.Omega.{arith}
 use native.Mathlib.Decide.{decLt}
-use mathlib.Core.Bool.{true, false}
-use borrow.Author.Tests.{ltb-true, ltb-false}
-use lib.Dec.{T, ltb, eqb·suc-zero}
+use lib.Dec.{T, eqb·suc-zero}
 use lib.ListN.{length, getD, take, length-take, length-map}
 use lib.Seq.{getD-take, take-all}
 use Rattle.model.specs.declared.Group.{Group}
@@ -35,7 +32,7 @@ use Rattle.numbering.proofs.Arrays.{next-take}
 use Rattle.numbering.proofs.Models.{first-is, outputs-are, differences-are, variable-from, output-from, difference-from}
 use Rattle.counts.proofs.Settled.{groups-settled, groups-few, constraints-few}
 use Rattle.blocks.specs.Blocks.{firstBlocks}
-use Rattle.cnf.specs.Parts.{groupBlockText, Outer, Among}
+use Rattle.cnf.specs.Parts.{groupBlockText, Among}
 use Rattle.cnf.proofs.Groups.{nodes-few, has-node}
 
 -- ---- the blocks
@@ -143,13 +140,6 @@ module _ (m : Model) (q : Settled m) where
   unfolding tableOf
   lines-are lines e = omega (arith, node-blocks m (q .sized))
 
-  -- a block before the first line's, and one that is not
-  pub in-nodes : (x lines : ℕ) → lines ≡ 1 + total nodesOf (take (m .s) (m .groups)) → ltb x lines ≡ true → x ≤ length (nodeBlocks m)
-  in-nodes x lines e l = omega (arith, lines-are lines e, ltb-true x lines l)
-
-  pub past-nodes : (x lines : ℕ) → lines ≡ 1 + length (nodeBlocks m) → ltb x lines ≡ false → Outer m x
-  past-nodes x lines e l = inr (omega (arith, ltb-false x lines l))
-
   -- no more blocks than any listing may have
   pub blocks-most : blockCount m ≤ limits .groups * limits .word + limits .constraints
   unfolding blockCount
@@ -235,10 +225,6 @@ module _ (m : Model) (q : Settled m) where
         here-most = rw (v-is, o-is, group-is m q i h) (group-most m q i h (b - getD first i 0) node-there)
 
   -- a line's block
-  pub after-nodes : (b : ℕ) → Outer m b → (b ≡ 0 → ⊥) → length (nodeBlocks m) < b
-  after-nodes b (inl e) h = absurd (h e)
-  after-nodes b (inr l) h = l
-
   module _ (d : Constraint) (b : ℕ) (h : length (nodeBlocks m) < b) (k : b ≤ blockCount m) (lines : ℕ) (e : lines ≡ 1 + length (nodeBlocks m)) where
     pub place-in-model : b - lines < m .c
     unfolding blockCount

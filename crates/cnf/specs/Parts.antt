@@ -1,7 +1,5 @@
 -- The parts that the block writer's functions write, as texts of the definitions' clauses. Assumes nothing.
-use Prim.Native.Nat.{ℕ, suc, _+_, _≤_, _<_}
-use mathlib.Core.Path.{_≡_}
-use mathlib.Core.Logic.{_⊎_}
+use Prim.Native.Nat.{ℕ, suc, _+_, _≤_}
 use mathlib.Core.Bool.{Bool, true, false, cond}
 use mathlib.Core.List.{List, [], _∷_, map}
 use lib.Dec.{eqb}
@@ -15,7 +13,7 @@ use Rattle.model.specs.declared.Model.{Model}
 use Rattle.model.specs.Lists.{each, range}
 use Rattle.model.specs.Limits.{limits}
 use Rattle.model.specs.Clauses.{memberClauses}
-use Rattle.model.specs.Cnf.{openCount, atLeast, atMost, nodeBlocks}
+use Rattle.model.specs.Cnf.{openCount, atLeast, atMost}
 use Rattle.model.specs.Totalizer.{dropped, shape, nodes, unit, totalizerBlocks}
 use Rattle.model.specs.Text.{clauseText, blockText, blockRefusal}
 use Rattle.terms.specs.declared.Member.{Member}
@@ -81,10 +79,6 @@ pub record Small (t : Node) : Type 0 where
   pub owns : Among (t .n) (t .a + t .b)
 
 -- ---- a model that may be listed
-
--- block 0, or a line's
-abbrev pub Outer : Model → ℕ → Type 0
-Outer m b = (b ≡ 0) ⊎ (length (nodeBlocks m) < b)
 
 -- "A written block returns its length", a refused one none
 unfoldable pub blockLength : Model → ℕ → ℕ → ℕ

@@ -9,7 +9,7 @@ ghost use lib.ListN.{length, getD, take};
 ghost use Rattle.model.specs.declared.Literal.the-variants.{Pos};
 ghost use Rattle.model.specs.Lists.{each, range};
 ghost use Rattle.model.specs.Limits.{limits};
-ghost use Rattle.model.specs.Cnf.{openCount, outputsOf, differenceCount, constraintClauses, nodeBlocks, blockCount};
+ghost use Rattle.model.specs.Cnf.{openCount, outputsOf, differenceCount, constraintClauses, blockCount};
 ghost use Rattle.encoding_laws.specs.Division.{nodesOf};
 ghost use Rattle.encoding_laws.proofs.Bounds.{mostBytes};
 ghost use Rattle.model.specs.Model.{constraintInRange};
@@ -17,12 +17,12 @@ ghost use Rattle.model.specs.Propagate.{Settled};
 ghost use Rattle.model.proofs.Lists.{All};
 ghost use Rattle.encoding_laws.specs.Steps.{BySteps};
 ghost use Rattle.encoding_laws.proofs.Fixpoint.{SettledAmong};
-ghost use Rattle.model.specs.Text.{clauseText, headerText, blockText, blockRefusal, writtenBlock, writtenRefusal, writtenLength, blockBuffer};
+ghost use Rattle.model.specs.Text.{clauseText, headerText, blockRefusal, writtenBlock, writtenRefusal, writtenLength, blockBuffer};
 ghost use Rattle.numbering.specs.Numbering.{firstVariables, numberingOf};
 ghost use Rattle.text.specs.Put.{Wrote};
 ghost use Rattle.terms.specs.Terms.{MembersBelow};
 ghost use Rattle.cnf.specs.Run.{runTo, bufferTo, runOf, runBuffer};
-ghost use Rattle.cnf.specs.Parts.{groupBlockText, entrantText, constraintText, Outer, blockLength, Among};
+ghost use Rattle.cnf.specs.Parts.{groupBlockText, entrantText, constraintText, blockLength, Among};
 use model::Constraint;
 use model::Group;
 use model::Literal;
@@ -183,32 +183,6 @@ fn put_header(buf: &mut [u8], at: usize, m: Model, v: Numbering) -> usize
     text::put_bytes(buf, w, b"\n")
 }
 
-// Block 0, or a line's: `lines` is the first line's.
-fn put_outer_block(buf: &mut [u8], at: usize, m: Model, v: Numbering, lines: u32, b: u32) -> usize
-    requires { ⌜ Settled m × (v ≡ numberingOf m) × (lines ≡ 1 + length (nodeBlocks m)) ⌝ }
-    requires { ⌜ (b ≤ blockCount m) × Outer m b ⌝ }
-    requires { ⌜ at + length (blockText m b) ≤ length (now buf) ⌝ }
-    ensures { λ r. ⌜ Wrote (blockText m b) at (now (buf .entry)) (now (buf .exit)) r ⌝ }
-{
-    if b == 0 {
-        return put_header(buf, at, m, v);
-    }
-    let j = (b - lines) as usize;
-    let groups = m.groups;
-    let first = v.first;
-    let c = m.constraints[j];
-    put_constraint_block(
-        buf,
-        at,
-        groups,
-        m.s as usize,
-        first,
-        c,
-        m.n,
-        v.differences[j],
-    )
-}
-
 // ---- what fits in `left` bytes: it is measured only where there may be no room
 
 // A clause of three literals of five digits, each with its sign and its space, then `0` and byte 10.
@@ -232,16 +206,39 @@ fn group_block_fits(g: Group, v: u32, o: u32, k: u32, left: usize) -> bool
     true
 }
 
-// Block 0, or a line's.
-fn outer_block_fits(m: Model, v: Numbering, lines: u32, b: u32, left: usize) -> bool
-    requires { ⌜ Settled m × (v ≡ numberingOf m) × (lines ≡ 1 + length (nodeBlocks m)) ⌝ }
-    requires { ⌜ (b ≤ blockCount m) × Outer m b ⌝ }
-    ensures { λ r. ⌜ r ≡ leb (length (blockText m b)) left ⌝ }
+// Block 0.
+fn header_fits(m: Model, v: Numbering, left: usize) -> bool
+    requires { ⌜ Settled m × (v ≡ numberingOf m) ⌝ }
+    ensures { λ r. ⌜ r ≡ leb (length (headerText m)) left ⌝ }
 {
     if left < Model::BLOCK_BYTES {
         let mut scratch = [0u8; Model::BLOCK_BYTES];
-        let n = put_outer_block(&mut scratch, 0, m, v, lines, b);
+        let n = put_header(&mut scratch, 0, m, v);
         return n <= left;
+    }
+    true
+}
+
+// A constraint's block.
+fn constraint_block_fits(
+    groups: [Group; Model::GROUPS],
+    s: usize,
+    first: [u32; Model::GROUPS],
+    c: Constraint,
+    n: u32,
+    x: u32,
+    left: usize,
+) -> bool
+    requires { ⌜ (s ≤ limits .groups) × (n ≤ limits .entrants) ⌝ }
+    requires { ⌜ All (SettledAmong n) (take s groups) × (first ≡ firstVariables (take s groups)) ⌝ }
+    requires { ⌜ T (constraintInRange s c) × (1 ≤ x) × Among x (differenceCount (take s groups) c) ⌝ }
+    requires { ⌜ length (each clauseText (constraintClauses n (take s groups) x c)) ≤ limits .block ⌝ }
+    ensures { λ r. ⌜ r ≡ leb (length (each clauseText (constraintClauses n (take s groups) x c))) left ⌝ }
+{
+    if left < Model::BLOCK_BYTES {
+        let mut scratch = [0u8; Model::BLOCK_BYTES];
+        let k = put_constraint_block(&mut scratch, 0, groups, s, first, c, n, x);
+        return k <= left;
     }
     true
 }
@@ -255,14 +252,16 @@ pub struct Run {
     pub length: usize,
 }
 
-// The blocks of a settled model from b to `end`, while each fits in what is left.
+// The blocks of a settled model from b to `end`, while each fits in what is left. Only block 0 takes the model: by value it would be a copy for each line.
 fn write_run(m: Model, b: u32, end: u32, buf: &mut [u8]) -> Run
     requires { ⌜ Settled m × (b ≤ end) × (end ≤ blockCount m) ⌝ }
     ensures { λ r. ⌜ r ≡ runTo m b end (length (now (buf .entry))) ⌝ }
     ensures { λ r. ⌜ now (buf .exit) ≡ bufferTo m b end (now (buf .entry)) ⌝ }
 {
     let v = numbering::of_model(m);
+    let numbers = v.first;
     let groups = m.groups;
+    let s = m.s as usize;
     let d = blocks::of_groups(groups, m.s);
     let first = d.first;
     let mut at: usize = 0;
@@ -270,19 +269,30 @@ fn write_run(m: Model, b: u32, end: u32, buf: &mut [u8]) -> Run
     let mut stop = end + 1;
     while x < stop {
         let left = buf.len() - at;
-        if 0 < x && x < d.lines {
-            let i = group_of(&first, m.s as usize, x);
+        if x == 0 {
+            if header_fits(m, v, left) {
+                at = put_header(buf, at, m, v);
+                x += 1;
+            } else {
+                stop = x;
+            }
+        } else if x < d.lines {
+            let i = group_of(&first, s, x);
             let g = groups[i];
+            let o = v.outputs[i];
             let k = x - first[i];
-            if group_block_fits(g, v.first[i], v.outputs[i], k, left) {
-                at = put_group_block(buf, at, g, v.first[i], v.outputs[i], k);
+            if group_block_fits(g, numbers[i], o, k, left) {
+                at = put_group_block(buf, at, g, numbers[i], o, k);
                 x += 1;
             } else {
                 stop = x;
             }
         } else {
-            if outer_block_fits(m, v, d.lines, x, left) {
-                at = put_outer_block(buf, at, m, v, d.lines, x);
+            let j = (x - d.lines) as usize;
+            let c = m.constraints[j];
+            let o = v.differences[j];
+            if constraint_block_fits(groups, s, numbers, c, m.n, o, left) {
+                at = put_constraint_block(buf, at, groups, s, numbers, c, m.n, o);
                 x += 1;
             } else {
                 stop = x;

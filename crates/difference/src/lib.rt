@@ -2,9 +2,10 @@
 // closing and filling.
 ghost use mathlib.Core.Path.{_≡_};
 ghost use mathlib.Core.Bool.{cond};
-ghost use Prim.Native.Nat.{_-_};
-ghost use lib.Dec.{eqb};
+ghost use Prim.Native.Nat.{_-_, _<_};
+ghost use lib.Dec.{ltb, eqb};
 ghost use lib.ListN.{getD, take};
+ghost use Rattle.model.specs.Limits.{limits};
 ghost use Rattle.model.specs.Model.{groupAt};
 ghost use Rattle.model.specs.Difference.{apart, isApart};
 ghost use Rattle.model.specs.Cnf.{openOf, eitherOpen, differing};
@@ -22,6 +23,18 @@ fn place(g: u32) -> usize
         return 0;
     }
     g as usize - 1
+}
+
+// The same as an index into the groups: 0 where there is no such group.
+pub fn slot(g: u32) -> usize
+    ensures { λ r. ⌜ r ≡ cond (ltb (g - 1) (limits .groups)) (g - 1) 0 ⌝ }
+    ensures { λ r. ⌜ r < limits .groups ⌝ }
+{
+    let i = place(g);
+    if i < Model::GROUPS {
+        return i;
+    }
+    0
 }
 
 // Group g of the first s; the all-zero group where there is none.
@@ -62,7 +75,7 @@ fn apart(f: Group, g: Group) -> u64
 }
 
 // The entrants open in one of the two, where nobody differs already.
-fn either_open(f: Group, g: Group) -> u64
+pub fn either_open(f: Group, g: Group) -> u64
     ensures { λ r. ⌜ r ≡ cond (eqb (apart f g) 0) (eitherOpen f g) 0 ⌝ }
 {
     if apart(f, g) != 0 {

@@ -227,7 +227,7 @@ pub extern "C" fn draw_fill(sheet: &[u8], groups: &[u64], values: &mut [u8]) -> 
     }
     let m = p.model;
     let sets = words::sets_from(groups);
-    filling::fill(m, sets, values)
+    filling::fill(m, &sets, values)
 }
 
 #[no_mangle]
@@ -237,7 +237,7 @@ pub extern "C" fn draw_fill_model(words: &[u64], groups: &[u64], values: &mut [u
 {
     let m = words::model_from(words);
     let sets = words::sets_from(groups);
-    filling::fill(m, sets, values)
+    filling::fill(m, &sets, values)
 }
 
 // ---- combining

@@ -1,33 +1,27 @@
--- Laws of a draw's test: group by group, and a constraint by its clauses for all entrants at once. Assumes nothing.
-use mathlib.Core.Path.{_≡_, sym, ap, ap₂, _∙_}
-use mathlib.Core.Bool.{Bool, true, false, not, _&&_}
-use mathlib.Core.List.{List, [], _∷_}
-use Prim.Native.Nat.{ℕ, _+_, _-_, _^_, _≤_, _<_}
+-- Laws of a draw's test: group by group, and a constraint by the sets of its groups. Assumes nothing.
+use mathlib.Core.Path.{_≡_, refl, sym, ap, ap₂, _∙_}
+use mathlib.Core.Bool.{Bool, true, false, _&&_}
+use mathlib.Core.List.{List, [], _∷_, map}
+use Prim.Native.Nat.{ℕ, _+_, _-_, _≤_, _<_}
 use native.Mathlib.Omega.{arith}
-use lib.Pow.{pow-pos}
 use lib.Bits.{bitAnd}
 use lib.Count.{ones}
-use lib.Dec.{T, eqb, leb, ltb, leb→le, ltb→lt, lt→ltb}
+use lib.Dec.{T, leb, leb→le}
 use lib.ListN.{length, getD, take, drop, length-take, drop-of-length-le}
 use lib.Seq.{getD-take}
 use borrow.Author.Tests.{eq-eqb, ne-eqb, le-leb, lt-leb}
-use Rattle.model.specs.declared.Literal.{Literal}
 use Rattle.model.specs.declared.Group.{Group}
 use Rattle.model.specs.declared.Constraint.{Constraint}
-use Rattle.model.specs.Lists.{every, pairwise, range, between}
+use Rattle.model.specs.Lists.{every, pairwise, between}
 use Rattle.model.specs.Limits.{limits}
-use Rattle.model.specs.Words.{full, size, inside, has}
-use Rattle.model.specs.Clauses.{byEntrant, memberCount, memberClauses}
-use Rattle.model.specs.Model.{zeroGroup, constraintSized, groupInRange, codeInRange, constraintInRange}
-use Rattle.model.specs.Solution.{allowed, setOf, constraintTrue}
-use Rattle.model.proofs.Lists.{and-left, and-right, and-both, every-all, every-ext, every-range-ext, all-imp, all-getD}
+use Rattle.model.specs.Words.{inside}
+use Rattle.model.specs.Clauses.{memberCount, groupsOf}
+use Rattle.model.specs.Model.{zeroGroup, constraintSized, constraintInRange}
+use Rattle.model.specs.Solution.{allowed, meaning, setOf, constraintTrue}
+use Rattle.model.proofs.Lists.{and-left, and-right, between-le}
 use Rattle.model.proofs.Loops.{drop-next}
-use Rattle.model.proofs.Words.{size-ones, sub-le, inside-sub}
-use Rattle.propagation_laws.proofs.Ranges.{group-range, constraint-code, not-seven-entrant, member-group}
-use Rattle.propagation_laws.proofs.Meaning.{clausesFor, clausesHold, over-entrant, same-clauses, meaning-below, difference-sets}
-use Rattle.constraint_clauses.specs.Holds.{clauseHolds}
-use Rattle.constraint_clauses.proofs.Entrants.{bits, clauses-are}
-use Rattle.filling.specs.Parts.{Small}
+use Rattle.model.proofs.Words.{size-ones}
+use Rattle.propagation_laws.proofs.Ranges.{groups-in, member-group}
 
 -- ---- a group
 
@@ -78,66 +72,26 @@ module _ (groups : List Group) (words : List ℕ) (s : ℕ) where
         (drop-of-length-le (take s groups) {i = i} (rw (length-take s groups) (omega arith)))
         (drop-of-length-le (take s words) {i = i} (rw (length-take s words) (omega arith))))
 
--- a word that a group in range may have has entrants 1 to n only
-pub allowed-small : (n : ℕ) (gs : List Group) (ws : List ℕ) → T (every (groupInRange n) gs) → T (pairwise allowed gs ws) → Small n ws
-unfolding allowed
-allowed-small n [] [] r t = tt
-allowed-small n [] (w ∷ ws) r t = absurd t
-allowed-small n (g ∷ gs) [] r t = absurd t
-allowed-small n (g ∷ gs) (w ∷ ws) r t =
-    and-both (ltb w (2 ^ n)) (every (λ w. ltb w (2 ^ n)) ws)
-    (one (and-left (groupInRange n g) (every (groupInRange n) gs) r) (and-left (allowed g w) (pairwise allowed gs ws) t))
-    (allowed-small n gs ws (and-right (groupInRange n g) (every (groupInRange n) gs) r) (and-right (allowed g w) (pairwise allowed gs ws) t))
-  where
-    one : T (groupInRange n g) → T (allowed g w) → T (ltb w (2 ^ n))
-    one r t =
-        let i = inside (g .fixed) w in
-        let p = and-right i (inside w (g .possible)) (and-left (i && inside w (g .possible)) (between (g .low) (g .high) (size w)) t) in
-        let l = sub-le (inside-sub w (g .possible) p) in
-        lt→ltb w (2 ^ n) (omega (arith, l, group-range n g r .small))
-
 -- ---- a constraint
 
--- the clauses of words d for all entrants at once say what the constraint means of the words of groups 1 to s
-module _ (n s : ℕ) (d : List ℕ) (c : Constraint) (t : T (constraintInRange s c)) (sized : T (constraintSized c)) where
-  wide : limits .members ≤ length (c .groups)
-  wide = leb→le (limits .members) (length (c .groups)) sized
-
-  code : T (codeInRange (c .code) (c .count))
-  code = constraint-code s c t
-
+module _ (s : ℕ) (d : List ℕ) where
   own : (g : ℕ) → (1 ≤ g) × (g ≤ s) → setOf d g ≡ setOf (take s d) g
   own g h = let h0 = h .0 in let h1 = h .1 in unfold setOf in sym (getD-take s d (g - 1) 0 (omega arith))
 
-  pub constraint-is : (c .code ≡ 7 → ⊥) → Small n (take s d)
-      → every (clauseHolds d (c .groups) (full n)) (memberClauses (c .code) (c .count)) ≡ constraintTrue (take s d) c
-  unfolding clausesHold
-  constraint-is other small =
-      clauses-are n d (c .groups) cs
-      ∙ every-range-ext (λ e. clausesFor (bits n d (c .groups) e) cs) (λ e. clausesFor (bits n (take s d) (c .groups) e) cs) 0 n
-      (λ e _ _. same-clauses (bits n d (c .groups) e) (bits n (take s d) (c .groups) e) (c .code) (c .count) six
-      (λ i h. ap (λ (w : ℕ). has w e) (own (getD (c .groups) i 0) (member-group s c t i h wide))))
-      ∙ sym (meaning-below c code six wide n (take s d) below
-      ∙ every-ext (clausesHold (take s d) c) (λ e. clausesFor (bits n (take s d) (c .groups) e) cs) (λ e. over-entrant (λ g. has (setOf (take s d) g) e) c six) (range 0 n))
-    where
-      cs : List (List Literal)
-      cs = memberClauses (c .code) (c .count)
+  own-sets : (gs : List ℕ) → T (every (between 1 s) gs) → map (setOf d) gs ≡ map (setOf (take s d)) gs
+  own-sets [] t = refl
+  own-sets (g ∷ gs) t =
+      ap₂ (λ (w : ℕ) (ws : List ℕ). w ∷ ws) (own g (between-le 1 s g (and-left (between 1 s g) (every (between 1 s) gs) t)))
+      (own-sets gs (and-right (between 1 s g) (every (between 1 s) gs) t))
 
-      six : T (byEntrant (c .code))
-      six = not-seven-entrant s c t other
+  module _ (c : Constraint) (t : T (constraintInRange s c)) where
+    -- its groups are among the first s
+    pub constraint-is : meaning (c .code) (map (setOf d) (take (memberCount (c .code) (c .count)) (c .groups))) ≡ constraintTrue (take s d) c
+    unfolding constraintTrue groupsOf
+    constraint-is = ap (meaning (c .code)) (own-sets (groupsOf c) (groups-in s c t))
 
-      below : (g : ℕ) → setOf (take s d) g < 2 ^ n
-      below g = unfold setOf in all-getD (λ w. w < 2 ^ n) 0 (pow-pos n) (take s d) (all-imp (λ w. T (ltb w (2 ^ n))) (λ w. w < 2 ^ n) (λ w k. ltb→lt w (2 ^ n) k) (take s d) (every-all (λ w. ltb w (2 ^ n)) (take s d) small)) (g - 1)
-
-  -- code 7: its two groups are among them
-  pub two-own : c .code ≡ 7 → (i : ℕ) → i < 2 → setOf d (getD (c .groups) i 0) ≡ setOf (take s d) (getD (c .groups) i 0)
-  two-own seven i h =
-      let two : memberCount (c .code) (c .count) ≡ 2 = unfold memberCount in ap (λ (k : ℕ). memberCount k (c .count)) seven in
-      own (getD (c .groups) i 0) (member-group s c t i (omega arith) wide)
-
-  -- and the two words differ
-  pub difference-is : c .code ≡ 7 → (f g : ℕ) → f ≡ setOf d (getD (c .groups) 0 0) → g ≡ setOf d (getD (c .groups) 1 0)
-      → not (eqb f g) ≡ constraintTrue (take s d) c
-  difference-is seven f g a b =
-      ap₂ (λ (x y : ℕ). not (eqb x y)) (a ∙ two-own seven 0 (omega arith)) (b ∙ two-own seven 1 (omega arith))
-      ∙ sym (difference-sets c seven wide (take s d))
+    -- code 7: so are its two groups
+    pub two-own : T (constraintSized c) → c .code ≡ 7 → (i : ℕ) → i < 2 → setOf d (getD (c .groups) i 0) ≡ setOf (take s d) (getD (c .groups) i 0)
+    two-own sized seven i h =
+        let two : memberCount (c .code) (c .count) ≡ 2 = unfold memberCount in ap (λ (k : ℕ). memberCount k (c .count)) seven in
+        own (getD (c .groups) i 0) (member-group s c t i (omega arith) (leb→le (limits .members) (length (c .groups)) sized))

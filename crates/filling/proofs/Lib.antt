@@ -1,3 +1,4 @@
 pub mod Draws
 pub mod Values
+pub mod Pairs
 pub mod Filling

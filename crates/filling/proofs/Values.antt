@@ -151,6 +151,13 @@ module _ (ls : List ℕ) (m : ℕ) (e : m ≡ length ls) where
         ap length tree-parts ∙ length-append (treeOf left ++ treeOf right) (valuesOf (unary m x))
         ∙ ap (λ (j : ℕ). j + length (valuesOf (unary m x))) (length-append (treeOf left) (treeOf right))
 
+-- two leaves
+pub pair-tree : (ls : List ℕ) (m : ℕ) (e : m ≡ length ls) → m ≡ 2 → (x : ℕ) → x ≡ count (assignmentOf ls) → treeOf ls ≡ valuesOf (unary 2 x)
+pair-tree ls m e two x k =
+    tree-parts ls m e (omega arith) x k
+    ∙ ap₂ (λ (a b : List ℕ). a ++ b ++ valuesOf (unary m x)) (leaf-tree (left ls m e) (m / 2) (left-length ls m e) (omega arith)) (leaf-tree (right ls m e) (m - m / 2) (right-length ls m e) (omega arith))
+    ∙ ap (λ (j : ℕ). valuesOf (unary j x)) two
+
 -- ---- a group's totalizer
 
 module _ (n : ℕ) (g : Group) (w : ℕ) where

@@ -1,19 +1,18 @@
 // Filling: whether a word for each group is a draw of a settled model, and the values of its one satisfying assignment. The way back from closing.
-// A draw is judged on sets, a constraint's clauses for all entrants at once, and values are written in their order, the variables', the outputs', then the X of code 7.
+// A draw is judged on sets, and values are written in their order, the variables', the outputs', then the X of code 7.
 ghost use mathlib.Core.Path.{_≡_};
 ghost use Prim.Native.Nat.{_+_, _≤_, _<_};
 ghost use lib.Dec.{T};
 ghost use lib.ListN.{length, take};
 ghost use Rattle.model.specs.Lists.{every, each, pairwise, eachPair};
 ghost use Rattle.model.specs.Limits.{limits};
-ghost use Rattle.model.specs.Words.{full};
-ghost use Rattle.model.specs.Model.{constraintSized, Whole, constraintInRange, inRange};
+ghost use Rattle.model.specs.Model.{constraintSized, constraintInRange, inRange};
 ghost use Rattle.model.specs.Solution.{allowed, constraintTrue, isSolution};
 ghost use Rattle.model.specs.Close.{assignmentOf};
 ghost use Rattle.model.specs.Fill.{count, unary, openValues, variableValues, outputValues, differenceValues, valueOf, valuesOf, fillRefusal, filledValues};
 ghost use Rattle.text.specs.Put.{Wrote};
 ghost use Rattle.correctness.specs.Filling.{RoundTrips};
-ghost use Rattle.filling.specs.Parts.{Small, entrantValue, treeOf};
+ghost use Rattle.filling.specs.Parts.{entrantValue, treeOf, pairValues};
 use model::Constraint;
 use model::Group;
 use model::Model;
@@ -38,9 +37,9 @@ fn allowed(g: Group, w: u64) -> bool
 }
 
 // Groups 1 to s.
-fn groups_allowed(groups: [Group; Model::GROUPS], words: [u64; Model::GROUPS], s: usize) -> bool
-    requires { ⌜ s ≤ limits .groups ⌝ }
-    ensures { λ r. ⌜ r ≡ pairwise allowed (take s groups) (take s words) ⌝ }
+fn groups_allowed(groups: [Group; Model::GROUPS], words: &[u64; Model::GROUPS], s: usize) -> bool
+    requires { ⌜ (s ≤ limits .groups) × (length (now words) ≡ limits .groups) ⌝ }
+    ensures { λ r. ⌜ r ≡ pairwise allowed (take s groups) (take s (now (words .entry))) ⌝ }
 {
     let mut i: usize = 0;
     while i < s {
@@ -53,36 +52,30 @@ fn groups_allowed(groups: [Group; Model::GROUPS], words: [u64; Model::GROUPS], s
     true
 }
 
-// A constraint, where each word has entrants 1 to n only, which are `all`.
-fn constraint_true(words: [u64; Model::GROUPS], l: Constraint, n: u32, s: u32, all: u64) -> bool
-    requires { ⌜ T (constraintInRange s l) × T (constraintSized l) × Small n (take s words) × (all ≡ full n) ⌝ }
-    ensures { λ r. ⌜ r ≡ constraintTrue (take s words) l ⌝ }
+// A constraint.
+fn constraint_true(words: &[u64; Model::GROUPS], l: Constraint, s: u32) -> bool
+    requires { ⌜ T (constraintInRange s l) ⌝ }
+    ensures { λ r. ⌜ r ≡ constraintTrue (take s (now (words .entry))) l ⌝ }
 {
     let ids = l.groups;
-    if l.code == 7 {
-        return constraint_clauses::set_of(words, ids[0])
-            != constraint_clauses::set_of(words, ids[1]);
-    }
-    constraint_clauses::constraint_holds(words, ids, all, l.code, l.count)
+    constraint_clauses::sets_hold(words, &ids, l.code, l.count)
 }
 
 // The first c constraints.
 fn constraints_true(
-    words: [u64; Model::GROUPS],
+    words: &[u64; Model::GROUPS],
     constraints: [Constraint; Model::CONSTRAINTS],
     c: usize,
-    n: u32,
     s: u32,
 ) -> bool
-    requires { ⌜ (c ≤ limits .constraints) × (n ≤ limits .entrants) ⌝ }
-    requires { ⌜ T (every (constraintInRange s) (take c constraints)) × T (every constraintSized constraints) × Small n (take s words) ⌝ }
-    ensures { λ r. ⌜ r ≡ every (constraintTrue (take s words)) (take c constraints) ⌝ }
+    requires { ⌜ c ≤ limits .constraints ⌝ }
+    requires { ⌜ T (every (constraintInRange s) (take c constraints)) ⌝ }
+    ensures { λ r. ⌜ r ≡ every (constraintTrue (take s (now (words .entry)))) (take c constraints) ⌝ }
 {
-    let all = model::entrants(n);
     let mut j: usize = 0;
     while j < c {
         let l = constraints[j];
-        if !constraint_true(words, l, n, s, all) {
+        if !constraint_true(words, l, s) {
             return false;
         }
         j += 1;
@@ -91,16 +84,16 @@ fn constraints_true(
 }
 
 // Whether the words of groups 1 to s are a draw of the model.
-fn is_draw(m: Model, words: [u64; Model::GROUPS]) -> bool
-    requires { ⌜ T (inRange m) × Whole m ⌝ }
-    ensures { λ r. ⌜ r ≡ isSolution m (take (m .s) words) ⌝ }
+fn is_draw(m: Model, words: &[u64; Model::GROUPS]) -> bool
+    requires { ⌜ T (inRange m) × (length (now words) ≡ limits .groups) ⌝ }
+    ensures { λ r. ⌜ r ≡ isSolution m (take (m .s) (now (words .entry))) ⌝ }
 {
     let groups = m.groups;
     if !groups_allowed(groups, words, m.s as usize) {
         return false;
     }
     let constraints = m.constraints;
-    constraints_true(words, constraints, m.c as usize, m.n, m.s)
+    constraints_true(words, constraints, m.c as usize, m.s)
 }
 
 // ---- the values of a group
@@ -183,7 +176,7 @@ fn put_outputs(values: &mut [u8], at: usize, m: usize, x: usize) -> usize
     k
 }
 
-// The outputs of a tree over m leaves: left half, right half, then the node itself.
+// The outputs of a tree over m leaves: left half, right half, then the node itself. A half of one leaf has none.
 fn put_tree(values: &mut [u8], at: usize, leaves: &[u8], m: usize) -> usize
     requires { ⌜ m ≡ length (now leaves) ⌝ }
     requires { ⌜ at + length (treeOf (now leaves)) ≤ length (now values) ⌝ }
@@ -191,6 +184,9 @@ fn put_tree(values: &mut [u8], at: usize, leaves: &[u8], m: usize) -> usize
 {
     if m < 2 {
         return at;
+    }
+    if m == 2 {
+        return put_outputs(values, at, 2, true_count(leaves));
     }
     let a = m / 2;
     let x = put_tree(values, at, &leaves[..a], a);
@@ -218,13 +214,13 @@ fn put_totalizer(values: &mut [u8], at: usize, g: Group, w: u64, n: u32) -> usiz
 fn put_all_variables(
     values: &mut [u8],
     groups: [Group; Model::GROUPS],
-    words: [u64; Model::GROUPS],
+    words: &[u64; Model::GROUPS],
     n: u32,
     s: usize,
 ) -> usize
-    requires { ⌜ (n ≤ limits .entrants) × (s ≤ limits .groups) ⌝ }
-    requires { ⌜ length (valuesOf (eachPair (variableValues n) (take s groups) (take s words))) ≤ length (now values) ⌝ }
-    ensures { λ r. ⌜ Wrote (valuesOf (eachPair (variableValues n) (take s groups) (take s words))) 0 (now (values .entry)) (now (values .exit)) r ⌝ }
+    requires { ⌜ (n ≤ limits .entrants) × (s ≤ limits .groups) × (length (now words) ≡ limits .groups) ⌝ }
+    requires { ⌜ length (valuesOf (eachPair (variableValues n) (take s groups) (take s (now words)))) ≤ length (now values) ⌝ }
+    ensures { λ r. ⌜ Wrote (valuesOf (eachPair (variableValues n) (take s groups) (take s (now (words .entry))))) 0 (now (values .entry)) (now (values .exit)) r ⌝ }
 {
     let mut k: usize = 0;
     let mut i: usize = 0;
@@ -241,13 +237,13 @@ fn put_all_totalizers(
     values: &mut [u8],
     at: usize,
     groups: [Group; Model::GROUPS],
-    words: [u64; Model::GROUPS],
+    words: &[u64; Model::GROUPS],
     n: u32,
     s: usize,
 ) -> usize
-    requires { ⌜ (n ≤ limits .entrants) × (s ≤ limits .groups) ⌝ }
-    requires { ⌜ at + length (valuesOf (eachPair (outputValues n) (take s groups) (take s words))) ≤ length (now values) ⌝ }
-    ensures { λ r. ⌜ Wrote (valuesOf (eachPair (outputValues n) (take s groups) (take s words))) at (now (values .entry)) (now (values .exit)) r ⌝ }
+    requires { ⌜ (n ≤ limits .entrants) × (s ≤ limits .groups) × (length (now words) ≡ limits .groups) ⌝ }
+    requires { ⌜ at + length (valuesOf (eachPair (outputValues n) (take s groups) (take s (now words)))) ≤ length (now values) ⌝ }
+    ensures { λ r. ⌜ Wrote (valuesOf (eachPair (outputValues n) (take s groups) (take s (now (words .entry))))) at (now (values .entry)) (now (values .exit)) r ⌝ }
 {
     let mut k = at;
     let mut i: usize = 0;
@@ -262,29 +258,29 @@ fn put_all_totalizers(
 
 // ---- of all constraints
 
-// The X of a constraint: those of the entrants in just one of its two groups are true.
+// The X of a constraint, whose first two groups are f and g: those of the entrants in just one of the two are true.
 fn put_differences(
     values: &mut [u8],
     at: usize,
-    groups: [Group; Model::GROUPS],
-    words: [u64; Model::GROUPS],
-    s: usize,
+    f: Group,
+    g: Group,
+    words: &[u64; Model::GROUPS],
     c: Constraint,
     n: u32,
 ) -> usize
-    requires { ⌜ (n ≤ limits .entrants) × T (constraintInRange s c) × T (constraintSized c) ⌝ }
-    requires { ⌜ at + length (valuesOf (differenceValues n (take s groups) (take s words) c)) ≤ length (now values) ⌝ }
-    ensures { λ r. ⌜ Wrote (valuesOf (differenceValues n (take s groups) (take s words) c)) at (now (values .entry)) (now (values .exit)) r ⌝ }
+    requires { ⌜ (n ≤ limits .entrants) × T (constraintSized c) ⌝ }
+    requires { ⌜ at + length (valuesOf (pairValues n f g (now words) c)) ≤ length (now values) ⌝ }
+    ensures { λ r. ⌜ Wrote (valuesOf (pairValues n f g (now (words .entry)) c)) at (now (values .entry)) (now (values .exit)) r ⌝ }
 {
     if c.code != 7 {
         return at;
     }
     let ids = c.groups;
-    let free = difference::differing(groups, s, c);
-    let f = constraint_clauses::set_of(words, ids[0]);
-    let g = constraint_clauses::set_of(words, ids[1]);
-    let either = f | g;
-    let both = f & g;
+    let free = difference::either_open(f, g);
+    let v = constraint_clauses::set_of(words, ids[0]);
+    let w = constraint_clauses::set_of(words, ids[1]);
+    let either = v | w;
+    let both = v & w;
     put_open(values, at, free, either ^ (either & both), n)
 }
 
@@ -292,38 +288,50 @@ fn put_all_differences(
     values: &mut [u8],
     at: usize,
     groups: [Group; Model::GROUPS],
-    words: [u64; Model::GROUPS],
+    words: &[u64; Model::GROUPS],
     s: usize,
     constraints: [Constraint; Model::CONSTRAINTS],
     c: usize,
     n: u32,
 ) -> usize
-    requires { ⌜ (n ≤ limits .entrants) × (c ≤ limits .constraints) ⌝ }
+    requires { ⌜ (n ≤ limits .entrants) × (c ≤ limits .constraints) × (s ≤ limits .groups) ⌝ }
     requires { ⌜ T (every (constraintInRange s) (take c constraints)) × T (every constraintSized constraints) ⌝ }
-    requires { ⌜ at + length (valuesOf (each (differenceValues n (take s groups) (take s words)) (take c constraints))) ≤ length (now values) ⌝ }
-    ensures { λ r. ⌜ Wrote (valuesOf (each (differenceValues n (take s groups) (take s words)) (take c constraints))) at (now (values .entry)) (now (values .exit)) r ⌝ }
+    requires { ⌜ at + length (valuesOf (each (differenceValues n (take s groups) (take s (now words))) (take c constraints))) ≤ length (now values) ⌝ }
+    ensures { λ r. ⌜ Wrote (valuesOf (each (differenceValues n (take s groups) (take s (now (words .entry)))) (take c constraints))) at (now (values .entry)) (now (values .exit)) r ⌝ }
 {
     let mut k = at;
     let mut j: usize = 0;
     while j < c {
         let l = constraints[j];
-        let i = put_differences(values, k, groups, words, s, l, n);
+        let ids = l.groups;
+        let a = difference::slot(ids[0]);
+        let f = groups[a];
+        let b = difference::slot(ids[1]);
+        let g = groups[b];
+        let i = put_differences(values, k, f, g, words, l, n);
         k = i;
         j += 1;
     }
     k
 }
 
+// What owning an array tells of its length.
+fn sized(words: [u64; Model::GROUPS])
+    ensures { λ r. ⌜ length words ≡ limits .groups ⌝ }
+{}
+
 // The values of the one satisfying assignment that reads back as the words of groups 1 to s; or refusal 20, 22, 30 or 26, and then no value changes.
 // With closing it goes there and back: `RoundTrips`.
-pub fn fill(m: Model, words: [u64; Model::GROUPS], values: &mut [u8]) -> u32
-    ensures { λ r. ⌜ r ≡ fillRefusal m words (now (values .entry)) ⌝ }
-    ensures { λ r. ⌜ now (values .exit) ≡ filledValues m words (now (values .entry)) ⌝ }
+pub fn fill(m: Model, words: &[u64; Model::GROUPS], values: &mut [u8]) -> u32
+    ensures { λ r. ⌜ r ≡ fillRefusal m (now (words .entry)) (now (values .entry)) ⌝ }
+    ensures { λ r. ⌜ now (values .exit) ≡ filledValues m (now (words .entry)) (now (values .entry)) ⌝ }
     ensures { λ r. ⌜ RoundTrips m ⌝ }
 {
     let groups = m.groups;
     let constraints = m.constraints;
     model::whole(groups, constraints);
+    let all = *words;
+    sized(all);
     let refusal = propagate::unsettled(m);
     if refusal != 0 {
         return refusal;

@@ -80,11 +80,16 @@ fn raise_union(low: &mut [u32; Model::GROUPS], ids: &[u32; Model::MEMBERS], coun
     requires { ⌜ (count ≤ limits .members) × (length (now ids) ≡ limits .members) ⌝ }
     ensures { λ r. ⌜ MovesLow (run (map (lowAtLeast (getD (now (ids .entry)) 0 0)) (drop 1 (take count (now (ids .entry)))))) (now (low .entry)) (now (low .exit)) ⌝ }
 {
+    let mut top = limit_of(low, ids[0]);
     let mut i: usize = 1;
     while i < count {
         let least = limit_of(low, ids[i]);
-        raise(low, ids[0], least);
         i += 1;
+        if least <= top {
+            continue;
+        }
+        raise(low, ids[0], least);
+        top = limit_of(low, ids[0]);
     }
 }
 
@@ -93,11 +98,16 @@ fn lower_members(high: &mut [u32; Model::GROUPS], ids: &[u32; Model::MEMBERS], c
     requires { ⌜ (count ≤ limits .members) × (length (now ids) ≡ limits .members) ⌝ }
     ensures { λ r. ⌜ MovesHigh (run (map (λ f. highAtMost f (getD (now (ids .entry)) 0 0)) (drop 1 (take count (now (ids .entry)))))) (now (high .entry)) (now (high .exit)) ⌝ }
 {
+    let mut most = limit_of(high, ids[0]);
     let mut i: usize = 1;
     while i < count {
-        let most = limit_of(high, ids[0]);
-        lower(high, ids[i], most as u64);
+        let f = ids[i];
         i += 1;
+        if limit_of(high, f) <= most {
+            continue;
+        }
+        lower(high, f, most as u64);
+        most = limit_of(high, ids[0]);
     }
 }
 

@@ -5,7 +5,7 @@ use mathlib.Core.Bool.{Bool, true, false, cond, _&&_}
 use mathlib.Core.List.{List, [], _∷_}
 use mathlib.Core.Option.{Option, none, some}
 use native.Mathlib.Numerals.{add-one}
-use native.Mathlib.Decide.{decLt, ℕ-discrete}
+use native.Mathlib.Decide.{decLt}
 use native.Mathlib.Omega.{arith}
 use borrow.Author.Tests.{eq-eqb, ne-eqb, eqb-true}
 use lib.Dec.{leb, eqb}
@@ -17,6 +17,7 @@ use Rattle.model.specs.declared.Word.the-variants.{Closing, Malformed}
 use Rattle.model.specs.Sheet.{onFirst, numberOf, ifNone, orZero}
 use Rattle.model.specs.Assignment.{wordsOf, variableIn, asLiteral, wordValue, wordRefusal, wordVariable, wordSays, hasMinus, variableSaid, signed, isZero, wordCloses}
 use Rattle.model.proofs.Loops.{drop-next}
+use Rattle.model.proofs.Flags.{same-test}
 use Rattle.line_form.specs.Form.{wordLength}
 
 module _ (l : List ℕ) (i : ℕ) (h : i < length l) where
@@ -120,13 +121,6 @@ words-some (b ∷ bs) = go (eqb b 32) (words-some bs)
     go false r = (b ∷ r .0, r .1, ap (onFirst b) (r .2))
 
 -- ---- the number and the values of a word
-
-pub same-test : (a b c d : ℕ) → (a ≡ b → c ≡ d) → (c ≡ d → a ≡ b) → eqb a b ≡ eqb c d
-same-test a b c d to from = go (ℕ-discrete a b)
-  where
-    go : Dec (a ≡ b) → eqb a b ≡ eqb c d
-    go (yes p) = eq-eqb a b p ∙ sym (eq-eqb c d (to p))
-    go (no f) = ne-eqb a b f ∙ sym (ne-eqb c d (λ q. f (from q)))
 
 -- by its sign, whether it is `0`, and the variable that its digits name with the sign and without it
 says : (m z : Bool) (o p : Option ℕ) → (z ≡ true → m ≡ false) → (z ≡ true → p ≡ none)

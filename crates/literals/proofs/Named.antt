@@ -3,7 +3,6 @@ use Prim.Native.Nat.{ℕ, zero, suc, _+_, _-_, _/_, _%_, _^_, _≤_, _<_}
 use mathlib.Core.Path.{_≡_, refl, ap, sym, _∙_, subst}
 use mathlib.Core.Bool.{Bool, true, false, cond, _&&_, _||_}
 use mathlib.Core.List.{List, [], _∷_, _++_}
-use native.Mathlib.Decide.{ℕ-discrete}
 use native.Mathlib.Omega.{arith}
 use borrow.Author.Tests.{eq-eqb, ne-eqb, ltb-true, ltb-false}
 use denote.Enum.Declared.{tagOf}
@@ -12,7 +11,7 @@ use Rattle.model.proofs.Solver.{word-named}
 use lib.Bits.{bitOr}
 use lib.Dec.{ltb, eqb}
 use lib.ListN.{length, take, drop, getD, set, replicate, length-set, length-replicate, getD-replicate}
-use lib.Seq.{take-nil, getD-set-same, getD-set-other}
+use lib.Seq.{take-nil}
 use Rattle.model.specs.declared.Literal.{Literal}
 use Rattle.model.specs.declared.Word.{Word}
 use Rattle.model.specs.declared.Word.the-variants.{Names, Closing, Malformed}
@@ -20,11 +19,12 @@ use Rattle.model.specs.Lists.{stop}
 use Rattle.model.specs.Words.{has}
 use Rattle.model.specs.Assignment.{wordsOf, wordValue, isSaid, variable, valueFor, withValue, literalsRefusal, withValues}
 use Rattle.model.proofs.Lists.{or-false, any-append}
-use Rattle.model.proofs.Words.{has-zero, has-or, has-first, has-next}
+use Rattle.model.proofs.Words.{has-zero}
+use Rattle.model.proofs.Flags.{same-test, flag-set}
 use Rattle.literals.specs.declared.Place.{Place}
 use Rattle.literals.specs.declared.Place.the-variants.{Free, Above, Taken}
 use Rattle.literals.proofs.Place.{the-type as place-type}
-use Rattle.line_form.proofs.Words.{k-le, word-size, is-last, is-more, is-some, first-last, first-more, first-some, same-test}
+use Rattle.line_form.proofs.Words.{k-le, word-size, is-last, is-more, is-some, first-last, first-more, first-some}
 use Rattle.line_form.proofs.Forms.{isNames}
 use Rattle.line_form.specs.Form.{wordLength}
 use Rattle.literals.specs.Line.{ifNames, named, wordThen, wordsRefusal, placeRefusal, names?, Noted, withFlag, notedWith}
@@ -262,28 +262,11 @@ module _ (s : List ℕ) (v at k : ℕ) (place : at ≤ length s) (e : k ≡ word
 
 -- ---- flags
 
-has-power : (e j : ℕ) → has (2 ^ e) j ≡ eqb e j
-has-power zero zero = has-first 1
-has-power zero (suc j) = has-next 1 j ∙ has-zero j ∙ sym (ne-eqb 0 (suc j) (λ q. omega arith))
-has-power (suc e) zero = has-first (2 ^ suc e) ∙ same-test (2 ^ suc e % 2) 1 (suc e) 0 (λ q. omega arith) (λ q. omega arith)
-has-power (suc e) (suc j) =
-    let h : 2 ^ suc e / 2 ≡ 2 ^ e = omega arith in
-    has-next (2 ^ suc e) j ∙ ap (λ (w : ℕ). has w j) h ∙ has-power e j ∙ same-test e j (suc e) (suc j) (λ q. omega arith) (λ q. omega arith)
-
 -- flag j after flag i is set
-flag-set : (flags : List ℕ) (i j : ℕ) → i / 64 < length flags
+flag-after : (flags : List ℕ) (i j : ℕ) → i / 64 < length flags
     → has (getD (withFlag i flags) (j / 64) 0) (j % 64) ≡ (has (getD flags (j / 64) 0) (j % 64) || eqb i j)
 unfolding withFlag
-flag-set flags i j h = go (ℕ-discrete (j / 64) (i / 64))
-  where
-    go : Dec (j / 64 ≡ i / 64)
-        → has (getD (set flags (i / 64) (bitOr (getD flags (i / 64) 0) (2 ^ (i % 64)))) (j / 64) 0) (j % 64) ≡ (has (getD flags (j / 64) 0) (j % 64) || eqb i j)
-    go (yes q) =
-        rw (q, getD-set-same flags (i / 64) (bitOr (getD flags (i / 64) 0) (2 ^ (i % 64))) 0 h, has-or (getD flags (i / 64) 0) (2 ^ (i % 64)) (j % 64))
-        (ap (λ (b : Bool). has (getD flags (i / 64) 0) (j % 64) || b) (has-power (i % 64) (j % 64) ∙ same-test (i % 64) (j % 64) i j (λ p. omega arith) (ap (λ (x : ℕ). x % 64))))
-    go (no f) =
-        rw (getD-set-other flags (i / 64) (j / 64) (bitOr (getD flags (i / 64) 0) (2 ^ (i % 64))) 0 f, ne-eqb i j (λ e. f (ap (λ (x : ℕ). x / 64) (sym e))))
-        (sym (or-false (has (getD flags (j / 64) 0) (j % 64))))
+flag-after flags i j h = flag-set flags i h j
 
 pub noted-next : (flags : List ℕ) (seen : List Literal) (l : Literal) (v : ℕ) → v ≡ variable l → 1 ≤ v → Noted flags seen → Noted (notedWith v flags) (seen ++ (l ∷ []))
 unfolding notedWith
@@ -301,7 +284,7 @@ noted-next flags seen l v p h n = go (ltb (v - 1) 65536) refl
     go : (b : Bool) → ltb (v - 1) 65536 ≡ b → Noted (cond b (withFlag (v - 1) flags) flags) (seen ++ (l ∷ []))
     go true q = record {
       size = unfold withFlag in length-set flags ((v - 1) / 64) (bitOr (getD flags ((v - 1) / 64) 0) (2 ^ ((v - 1) % 64))) ∙ n .size;
-      at = λ i r. flag-set flags (v - 1) i (omega (arith, n .size, ltb-true (v - 1) 65536 q))
+      at = λ i r. flag-after flags (v - 1) i (omega (arith, n .size, ltb-true (v - 1) 65536 q))
           ∙ ap (λ (b : Bool). b || eqb (v - 1) i) (n .at i r)
           ∙ ap (λ (b : Bool). names? (suc i) seen || b) (same-test (v - 1) i (variable l) (suc i) (λ q. omega (arith, p)) (λ q. omega (arith, p)))
           ∙ sym (named-more i);

@@ -1,6 +1,7 @@
 pub mod Lists
 pub mod Loops
 pub mod Words
+pub mod Flags
 pub mod Width
 pub mod Arrays
 pub mod Codes

@@ -8,7 +8,7 @@ ghost use lib.Dec.{T, leb};
 ghost use lib.ListN.{length};
 ghost use Rattle.model.specs.Lists.{every};
 ghost use Rattle.model.specs.Limits.{limits, groupsFor};
-ghost use Rattle.model.specs.Words.{full};
+ghost use Rattle.model.specs.Words.{full, less};
 ghost use Rattle.model.specs.Sheet.{digitsAfter, shortNumber, digitsValue};
 ghost use Rattle.model.specs.Model.{zeroModel, constraintSized};
 
@@ -235,6 +235,13 @@ pub fn entrants(n: u32) -> u64
         return (1 << n) - 1;
     }
     18446744073709551615
+}
+
+// Those of a who are not in b.
+pub fn without(a: u64, b: u64) -> u64
+    ensures { λ r. ⌜ r ≡ less a b ⌝ }
+{
+    a & !b
 }
 
 // The number that digits stand for, up to 9 of them: of a field of a sheet, and of a literal of a solver's line.

@@ -1,4 +1,5 @@
-pub mod Arrays
-pub mod Loops
-pub mod Members
 pub mod Passes
+pub mod Noting
+pub mod Indexing
+pub mod Skipping
+pub mod Settling

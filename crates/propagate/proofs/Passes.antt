@@ -1,16 +1,15 @@
 -- Laws of a pass over the whole arrays and over the groups of a model, and of the passes made. Assumes nothing.
 use mathlib.Core.Path.{_≡_, refl, sym, ap, ap₂, _∙_, subst}
-use Prim.Native.Nat.{ℕ, zero, suc, _+_, _-_, _*_, _≤_, _<_}
-use native.Mathlib.Nat.{le-trans, sub-zero, mul-le-mul-right}
-use native.Mathlib.Numerals.{add-one}
+use Prim.Native.Nat.{ℕ, zero, suc, _+_, _-_, _*_, _≤_, _<_, min}
+use native.Mathlib.Nat.{le-trans, mul-le-mul-right}
 use native.Mathlib.Omega.{arith}
-use mathlib.Core.Bool.{Bool, true, false, cond, not, _&&_}
+use mathlib.Core.Bool.{Bool, true, false, cond, not, and-true, _&&_}
 use mathlib.Core.Logic.{⊎-elim}
 use mathlib.Core.List.{List, [], _∷_, _++_, map}
 use borrow.Author.Tests.{eqb-true}
 use lib.Dec.{T, eqb}
-use lib.ListN.{length, getD, take, drop, take-append-drop, List·getD-append}
-use lib.Seq.{take-at, length-take-le}
+use lib.ListN.{length, getD, take, drop, length-take, take-append-drop, drop-of-length-le, List·getD-append}
+use lib.Seq.{take-at, getD-take, length-take-le}
 use Rattle.model.specs.declared.Literal.{Literal}
 use Rattle.model.specs.declared.Literal.the-variants.{Pos, Neg}
 use Rattle.model.specs.declared.Group.{Group}
@@ -31,8 +30,12 @@ use Rattle.model.proofs.Codes.{entrant-or-seven, members-below}
 use Rattle.model.proofs.LimitRules.{all-limits}
 use Rattle.propagation_laws.proofs.Meaning.{rule-clauses}
 use Rattle.propagation_laws.proofs.Ranges.{constraint-code, groups-in, member-below, InRange, in-range}
-use Rattle.table.specs.Table.{Whole, Changes}
-use Rattle.table.proofs.Rules.{run-append}
+use Rattle.table.specs.Table.{zipped, Whole, Changes}
+use Rattle.model.proofs.Loops.{drop-next}
+use Rattle.model.proofs.Words.{entrants-full}
+use Rattle.table.proofs.Rules.{run-append, RulesLeft, rule-done}
+use Rattle.rules.specs.Among.{MayDiffer, scopeAmong, ruleAmong}
+use Rattle.propagate.specs.Skip.{After}
 
 -- ---- the rules of a pass, on all places
 
@@ -41,13 +44,58 @@ unfolding groupRuleAt
 groups-length a zero t = refl
 groups-length a (suc k) t = groups-length (suc a) k (groupRuleAt a t) ∙ place-length (a - 1) groupRule t
 
+pub groups-whole : (s : ℕ) (t u : List Group) → Whole t → u ≡ run (map groupRuleAt (range 1 s)) t → Whole u
+groups-whole s t u w e = ap length e ∙ groups-length 1 s t ∙ w
+
+-- for the word of entrants 1..n, the rule is that of n
+pub among-all : (n all : ℕ) (c : Constraint) (t : List Group) → n ≤ limits .word → all ≡ full (min n (limits .word)) → ruleAmong all c t ≡ constraintRule n c t
+unfolding ruleAmong scopeAmong constraintRule scope
+among-all n all c t h e = ap (λ (x : ℕ). run (map (clauseRule (cond (isDifference c) (lone (unlikeIn t c)) x)) (clausesOf c) ++ limitRules c) t) (e ∙ entrants-full n h)
+
+pub changes-among : (n all : ℕ) (c : Constraint) (t u : List Group) → n ≤ limits .word → all ≡ full (min n (limits .word)) → Whole u × (u ≡ ruleAmong all c t)
+    → Changes (constraintRule n c) t u
+changes-among n all c t u h e a w = (a .0, a .1 ∙ among-all n all c t h e)
+
 -- t, after the groups' rules u, and after the constraints' v
 pub pass-made : (n s : ℕ) (cs : List Constraint) (t u v : List Group) → Whole t → u ≡ run (map groupRuleAt (range 1 s)) t
     → Changes (run (map (constraintRule n) cs)) u v → Whole v × (v ≡ run (rules n s cs) t)
 unfolding rules
 pass-made n s cs t u v w e a =
-    let b = a (ap length e ∙ groups-length 1 s t ∙ w) in
+    let b = a (groups-whole s t u w e) in
     (b .0, b .1 ∙ ap (run (map (constraintRule n) cs)) e ∙ sym (run-append (map groupRuleAt (range 1 s)) (map (constraintRule n) cs) t))
+
+-- constraints j + 1 to c: those from j on make of u what all of them make of t
+module _ (n all : ℕ) (few : n ≤ limits .word) (is : all ≡ full (min n (limits .word))) (cs : List Constraint) (c : ℕ) (fits : c ≤ length cs) (t : List Group) where
+  pub constraint-done : (j : ℕ) (u : List Group) → RulesLeft (run (map (constraintRule n) (take c cs))) (constraintRule n) (take c cs) t j u → j < c → (d : Constraint) (v : List Group)
+      → Whole v × (v ≡ ruleAmong all (getD cs j d) u) → RulesLeft (run (map (constraintRule n) (take c cs))) (constraintRule n) (take c cs) t (j + 1) v
+  constraint-done j u inv h d v a =
+      rule-done (run (map (constraintRule n) (take c cs))) (constraintRule n) (take c cs) t j u inv (omega (arith, length-take c cs)) d v
+      (subst (λ x. Changes (constraintRule n x) u v) (sym (getD-take c cs j d h)) (changes-among n all (getD cs j d) u v few is a))
+
+-- q with what all constraints say is r with what those from j on say
+abbrev pub DifferFrom : List ℕ → List ℕ → List Constraint → ℕ → Bool → ℕ → Bool → Type 0
+DifferFrom f p cs c q j r = (l h : List ℕ) → length l ≡ limits .groups → length h ≡ limits .groups
+    → (q && every (mayDiffer (zipped f p l h)) (take c cs)) ≡ (r && every (mayDiffer (zipped f p l h)) (drop j (take c cs)))
+
+and-assoc : (a b c : Bool) → (a && (b && c)) ≡ (a && b && c)
+and-assoc true b c = refl
+and-assoc false b c = refl
+
+module _ (f p : List ℕ) (cs : List Constraint) (c : ℕ) (few : c ≤ length cs) (q : Bool) (j : ℕ) (r : Bool) (inv : DifferFrom f p cs c q j r) where
+  pub differ-next : j < c → (d : Constraint) (x : Bool) → MayDiffer x f p (getD cs j d) → DifferFrom f p cs c q (j + 1) (r && x)
+  differ-next some d x m l h a b =
+      let t = zipped f p l h in
+      let rest = every (mayDiffer t) (drop (j + 1) (take c cs)) in
+      inv l h a b
+      ∙ ap (λ xs. r && every (mayDiffer t) xs) (drop-next d (take c cs) j (omega (arith, length-take c cs)))
+      ∙ ap (λ y. r && (mayDiffer t y && rest)) (getD-take c cs j d some)
+      ∙ ap (λ (y : Bool). r && (y && rest)) (sym (m l h a b))
+      ∙ and-assoc r x rest
+
+  pub differ-end : c ≤ j → (l h : List ℕ) → length l ≡ limits .groups → length h ≡ limits .groups → r ≡ (q && every (mayDiffer (zipped f p l h)) (take c cs))
+  differ-end end l h a b =
+      let past : length (take c cs) ≤ j = omega (arith, length-take c cs) in
+      sym (inv l h a b ∙ ap (λ xs. r && every (mayDiffer (zipped f p l h)) xs) (drop-of-length-le (take c cs) past) ∙ and-true r)
 
 -- ---- a rule of the first s places leaves what follows them
 
@@ -253,17 +301,12 @@ differ-inside s some (c ∷ cs) r t u e =
 
 module _ (s : ℕ) (some : 1 ≤ s) (few : s ≤ limits .groups) (cs : List Constraint) (r : T (every (constraintInRange s) cs)) (t : List Group) (w : Whole t)
     (q : Bool) (e : q ≡ consistent (take s t)) where
-  pub untenable : q ≡ false → false ≡ tenable cs (take s t)
+  pub tenable-is : (a : Bool) → a ≡ (q && every (mayDiffer t) cs) → a ≡ tenable cs (take s t)
   unfolding tenable
-  untenable f = sym (ap (λ (x : Bool). x && every (mayDiffer (take s t)) cs) (sym e ∙ f))
-
-  pub tenable-by : q ≡ true → (a : Bool) → a ≡ every (mayDiffer t) cs → a ≡ tenable cs (take s t)
-  unfolding tenable
-  tenable-by f a d =
+  tenable-is a d =
       d
-      ∙ ap (λ u. every (mayDiffer u) cs) (sym (take-append-drop s t))
-      ∙ differ-inside s some cs r (take s t) (drop s t) (length-take-le s t (omega arith))
-      ∙ sym (ap (λ (x : Bool). x && every (mayDiffer (take s t)) cs) (sym e ∙ f))
+      ∙ ap (λ u. q && every (mayDiffer u) cs) (sym (take-append-drop s t))
+      ∙ ap₂ (λ (x y : Bool). x && y) e (differ-inside s some cs r (take s t) (drop s t) (length-take-le s t (omega arith)))
 
 -- ---- a pass of the model is that of the arrays, at the first s places
 
@@ -299,7 +342,7 @@ module _ (m : Model) (t : T (inRange m)) where
       let b = every (constraintInRange (m .s)) cs in
       (in-range-local (m .s) (R .some-group) c (and-left a b u) (m .n), constraints-local cs (and-right a b u))
 
-  pass-local : Local (m .s) (pass m)
+  pub pass-local : Local (m .s) (pass m)
   unfolding pass rules
   pass-local = local-run (m .s) (rules (m .n) (m .s) (constraintsOf m))
       (all-append (Local (m .s)) (map groupRuleAt (range 1 (m .s))) (map (constraintRule (m .n)) (constraintsOf m)) (groups-local 1 (m .s) (omega arith) (omega arith))
@@ -316,41 +359,6 @@ module _ (m : Model) (t : T (inRange m)) where
   -- what the code asks of the constraints
   pub constraints-stand : T (every (constraintInRange (limits .groups)) (take (m .c) (m .constraints)))
   constraints-stand = all-stand (m .s) s-few (take (m .c) (m .constraints)) constraints-in
-
--- ---- passes until one changes nothing: k are made, the table is t
-
-abbrev pub Left : Model → ℕ → List Group → Outcome (List Group)
-Left m k t = iterate (tenable (constraintsOf m)) sameTable (pass m) (2 * m .s * m .n + 1 - k) k t
-
-pub left-start : (m : Model) → outcome m ≡ Left m 0 (tableOf m)
-unfolding outcome
-left-start m = ap (λ (f : ℕ). iterate (tenable (constraintsOf m)) sameTable (pass m) f 0 (tableOf m)) (sym (sub-zero (2 * m .s * m .n + 1)))
-
-module _ (m : Model) (k : ℕ) (t u : List Group) (e : u ≡ pass m t) (some : k < 2 * m .s * m .n + 1) where
-  once : Left m k t ≡ afterPass (tenable (constraintsOf m) u) (sameTable u t) k u (Left m (k + 1) u)
-  unfolding iterate
-  once =
-      ap (λ (f : ℕ). iterate (tenable (constraintsOf m)) sameTable (pass m) f k t) less-by-one
-      ∙ sym (ap (λ y. afterPass (tenable (constraintsOf m) y) (sameTable y t) k y (iterate (tenable (constraintsOf m)) sameTable (pass m) (2 * m .s * m .n + 1 - (k + 1)) (suc k) y)) e)
-      ∙ ap (λ (j : ℕ). afterPass (tenable (constraintsOf m) u) (sameTable u t) k u (iterate (tenable (constraintsOf m)) sameTable (pass m) (2 * m .s * m .n + 1 - (k + 1)) j u)) (sym (add-one k))
-    where
-      less-by-one : 2 * m .s * m .n + 1 - k ≡ suc (2 * m .s * m .n + 1 - (k + 1))
-      less-by-one = omega arith
-
-  pub left-refused : tenable (constraintsOf m) u ≡ false → Left m k t ≡ contradiction
-  left-refused a = once ∙ rw a
-
-  pub left-done : tenable (constraintsOf m) u ≡ true → sameTable u t ≡ true → Left m k t ≡ fixpoint (k + 1) u
-  left-done a b = once ∙ rw (a, b, add-one k)
-
-  pub left-next : tenable (constraintsOf m) u ≡ true → sameTable u t ≡ false → Left m k t ≡ Left m (k + 1) u
-  left-next a b = once ∙ rw (a, b)
-
-pub left-none : (m : Model) (k : ℕ) (t : List Group) → 2 * m .s * m .n + 1 ≤ k → Left m k t ≡ contradiction
-unfolding iterate
-left-none m k t h =
-    let z : 2 * m .s * m .n + 1 - k ≡ 0 = omega arith in
-    ap (λ (f : ℕ). iterate (tenable (constraintsOf m)) sameTable (pass m) f k t) z
 
 -- ---- the answer
 
@@ -402,24 +410,25 @@ module _ (m : Model) (r : Bool) (e : r ≡ inRange m) where
 pub whole-read : (a gs : List Group) → Whole gs → a ≡ gs → Whole a
 whole-read a gs w e = ap length e ∙ w
 
-module _ (m : Model) (t : T (inRange m)) (a b : List Group) (w : Whole a) (e : a ≡ m .groups)
-    (p : b ≡ run (rules (m .n) (m .s) (take (m .c) (m .constraints))) a) (r : Bool) (c : r ≡ tenable (take (m .c) (m .constraints)) (take (m .s) b)) where
-  now-is : take (m .s) a ≡ tableOf m
-  unfolding tableOf
-  now-is = ap (take (m .s)) e
+-- what a pass says of 22
+module _ (m : Model) (t : T (inRange m)) (b : List Group) (same ok : Bool) (a : After m b same ok) where
+  fixpoint-is : isFixpoint m ≡ (ok && same)
+  unfolding isFixpoint constraintsOf tableOf
+  fixpoint-is =
+      let next : take (m .s) b ≡ pass m (tableOf m) = unfold tableOf in pass-first m t (m .groups) b (a .before) (a .pass) in
+      sym (ap₂ (λ (x y : Bool). x && y) (a .ok-is) (a .same-is) ∙ ap (λ x. tenable (take (m .c) (m .constraints)) x && sameTable x (take (m .s) (m .groups))) next)
 
-  next-is : take (m .s) b ≡ pass m (tableOf m)
-  next-is = pass-first m t a b w p ∙ ap (pass m) now-is
+  pub untenable-22 : ok ≡ false → 22 ≡ unsettledOr m 0
+  unfolding unsettledOr
+  untenable-22 f = rw (T-true (inRange m) t, fixpoint-is ∙ ap (λ (x : Bool). x && same) f)
 
-  fixpoint-is : isFixpoint m ≡ (tenable (take (m .c) (m .constraints)) (take (m .s) b) && sameTable (take (m .s) b) (take (m .s) a))
-  unfolding isFixpoint constraintsOf
-  fixpoint-is = sym (ap₂ (λ x y. tenable (take (m .c) (m .constraints)) x && sameTable x y) next-is now-is)
+  pub changed-22 : ok ≡ true → same ≡ false → 22 ≡ unsettledOr m 0
+  unfolding unsettledOr
+  changed-22 f g = rw (T-true (inRange m) t, fixpoint-is ∙ ap₂ (λ (x y : Bool). x && y) f g)
 
-  pub contradicts : r ≡ false → false ≡ isFixpoint m
-  contradicts f = sym (fixpoint-is ∙ rw (sym c ∙ f))
-
-  pub compares : r ≡ true → (q : Bool) → q ≡ sameTable (take (m .s) b) (take (m .s) a) → q ≡ isFixpoint m
-  compares f q d = d ∙ sym (fixpoint-is ∙ rw (sym c ∙ f))
+  pub settled-0 : ok ≡ true → same ≡ true → 0 ≡ unsettledOr m 0
+  unfolding unsettledOr
+  settled-0 f g = rw (T-true (inRange m) t, fixpoint-is ∙ ap₂ (λ (x y : Bool). x && y) f g)
 
 -- refusals 20 and 22
 
@@ -427,16 +436,7 @@ pub unsettled-20 : (m : Model) → inRange m ≡ false → 20 ≡ unsettledOr m 
 unfolding unsettledOr
 unsettled-20 m e = rw e
 
-module _ (m : Model) (t : T (inRange m)) (r : Bool) (e : r ≡ isFixpoint m) where
-  pub unsettled-22 : r ≡ false → 22 ≡ unsettledOr m 0
-  unfolding unsettledOr
-  unsettled-22 f = rw (T-true (inRange m) t, sym e ∙ f)
-
-  pub unsettled-0 : r ≡ true → 0 ≡ unsettledOr m 0
-  unfolding unsettledOr
-  unsettled-0 f = rw (T-true (inRange m) t, sym e ∙ f)
-
--- ---- the loop of passes: both parts of the contract
+-- ---- both parts of the contract
 
 abbrev Contract : Model → Propagated → Type 0
 Contract m o = (o ≡ propagated m) × (o .passes ≤ 2 * m .s * m .n + 1)
@@ -447,34 +447,8 @@ contract m o e = (e, subst (λ (x : Propagated). x .passes ≤ 2 * m .s * m .n +
 pub refused-20 : (m : Model) → inRange m ≡ false → (o : Propagated) → o ≡ refusedPropagation 20 m → Contract m o
 refused-20 m f o e = contract m o (e ∙ sym (propagated-out m f))
 
-pub first-left : (m : Model) (a : List Group) → a ≡ m .groups → outcome m ≡ Left m 0 (take (m .s) a)
-first-left m a e = left-start m ∙ ap (Left m 0) (unfold tableOf in sym (ap (take (m .s)) e))
-
 pub fuel-fits : (m : Model) → T (inRange m) → 2 * m .s * m .n ≤ 2 * limits .groups * limits .entrants
 fuel-fits m t =
     let a : 2 * m .s ≤ 2 * limits .groups = omega (arith, s-few m t) in
     let b : 2 * m .s * m .n ≤ 2 * limits .groups * m .n = mul-le-mul-right (m .n) a in
     omega (arith, n-few m t)
-
-module _ (m : Model) (t : T (inRange m)) (k : ℕ) (a : List Group) (inv : outcome m ≡ Left m k (take (m .s) a)) where
-  ended : (x : Outcome (List Group)) → Left m k (take (m .s) a) ≡ x → (o : Propagated) → o ≡ propagatedAs m x → Contract m o
-  ended x q o e = contract m o (e ∙ sym (propagated-in m t ∙ ap (propagatedAs m) (inv ∙ q)))
-
-  pub refused-at-end : 2 * m .s * m .n + 1 ≤ k → (o : Propagated) → o ≡ refusedPropagation 21 m → Contract m o
-  refused-at-end h o e = ended contradiction (left-none m k (take (m .s) a) h) o e
-
-  module _ (b : List Group) (w : Whole a) (p : b ≡ run (rules (m .n) (m .s) (take (m .c) (m .constraints))) a) (some : k < 2 * m .s * m .n + 1)
-      (r : Bool) (c : r ≡ tenable (take (m .c) (m .constraints)) (take (m .s) b)) where
-    pub refused-21 : r ≡ false → (o : Propagated) → o ≡ refusedPropagation 21 m → Contract m o
-    unfolding constraintsOf
-    refused-21 f o e = ended contradiction (left-refused m k (take (m .s) a) (take (m .s) b) (pass-first m t a b w p) some (sym c ∙ f)) o e
-
-    module _ (f : r ≡ true) (q : Bool) (d : q ≡ sameTable (take (m .s) b) (take (m .s) a)) where
-      pub at-fixpoint : q ≡ true → (o : Propagated) → o ≡ propagatedAs m (fixpoint (k + 1) (take (m .s) b)) → Contract m o
-      unfolding constraintsOf
-      at-fixpoint g o e =
-          ended (fixpoint (k + 1) (take (m .s) b)) (left-done m k (take (m .s) a) (take (m .s) b) (pass-first m t a b w p) some (sym c ∙ f) (sym d ∙ g)) o e
-
-      pub pass-more : q ≡ false → outcome m ≡ Left m (k + 1) (take (m .s) b)
-      unfolding constraintsOf
-      pass-more g = inv ∙ left-next m k (take (m .s) a) (take (m .s) b) (pass-first m t a b w p) some (sym c ∙ f) (sym d ∙ g)

@@ -12,3 +12,5 @@ pub mod Propagation
 pub mod Lines
 pub mod Sheets
 pub mod Unchanged
+pub mod Locality
+pub mod AtTheEnd

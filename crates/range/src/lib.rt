@@ -1,10 +1,11 @@
 // The range check of a model: refusal 20. The reader asks the same of a constraint line.
 ghost use mathlib.Core.Path.{_≡_};
 ghost use Prim.Native.Nat.{_≤_};
-ghost use lib.Dec.{eqb};
-ghost use lib.ListN.{take, drop};
+ghost use mathlib.Core.Bool.{_&&_};
+ghost use lib.Dec.{eqb, leb};
+ghost use lib.ListN.{length, take, drop};
 ghost use Rattle.model.specs.Lists.{every, any, distinct, between};
-ghost use Rattle.model.specs.Limits.{limits};
+ghost use Rattle.model.specs.Limits.{limits, groupsFor};
 ghost use Rattle.model.specs.Clauses.{memberCount};
 ghost use Rattle.model.specs.Model.{groupInRange, codeInRange, constraintInRange, inRange};
 use model::Constraint;
@@ -27,22 +28,6 @@ fn group_in_range(g: Group, n: u32) -> bool
         return false;
     }
     g.high <= n
-}
-
-// The first s groups.
-fn groups_in_range(groups: [Group; Model::GROUPS], s: usize, n: u32) -> bool
-    requires { ⌜ (n ≤ limits .entrants) × (s ≤ limits .groups) ⌝ }
-    ensures { λ r. ⌜ r ≡ every (groupInRange n) (take s groups) ⌝ }
-{
-    let mut i: usize = 0;
-    while i < s {
-        let g = groups[i];
-        if !group_in_range(g, n) {
-            return false;
-        }
-        i += 1;
-    }
-    true
 }
 
 // ---- constraints
@@ -84,14 +69,12 @@ pub fn all_between(ids: [u32; Model::MEMBERS], k: usize, s: u32) -> bool
 }
 
 // Whether x stands among the first k numbers, from place i on.
-fn stands(ids: [u32; Model::MEMBERS], i: usize, k: usize, x: u32) -> bool
-    ensures { λ r. ⌜ r ≡ any (eqb x) (drop i (take k ids)) ⌝ }
+fn stands(ids: &[u32; Model::MEMBERS], i: usize, k: usize, x: u32) -> bool
+    requires { ⌜ (k ≤ limits .members) × (length (now ids) ≡ limits .members) ⌝ }
+    ensures { λ r. ⌜ r ≡ any (eqb x) (drop i (take k (now (ids .entry)))) ⌝ }
 {
     let mut j = i;
-    while j < Model::MEMBERS {
-        if k <= j {
-            return false;
-        }
+    while j < k {
         if x == ids[j] {
             return true;
         }
@@ -100,22 +83,29 @@ fn stands(ids: [u32; Model::MEMBERS], i: usize, k: usize, x: u32) -> bool
     false
 }
 
-// The first k numbers are all different.
-pub fn all_distinct(ids: [u32; Model::MEMBERS], k: usize) -> bool
+fn first_distinct(ids: [u32; Model::MEMBERS], k: usize) -> bool
+    requires { ⌜ k ≤ limits .members ⌝ }
     ensures { λ r. ⌜ r ≡ distinct (take k ids) ⌝ }
 {
     let mut i: usize = 0;
-    while i < Model::MEMBERS {
-        if k <= i {
-            return true;
-        }
+    while i < k {
         let x = ids[i];
-        if stands(ids, i + 1, k, x) {
+        if stands(&ids, i + 1, k, x) {
             return false;
         }
         i += 1;
     }
     true
+}
+
+// The first k numbers are all different.
+pub fn all_distinct(ids: [u32; Model::MEMBERS], k: usize) -> bool
+    ensures { λ r. ⌜ r ≡ distinct (take k ids) ⌝ }
+{
+    if k < Model::MEMBERS {
+        return first_distinct(ids, k);
+    }
+    first_distinct(ids, Model::MEMBERS)
 }
 
 // A code is 1 to 7, and the count of code 6 is 2 to 16.
@@ -151,47 +141,51 @@ fn constraint_in_range(c: Constraint, s: u32) -> bool
     all_distinct(ids, k)
 }
 
-// The first c constraints.
-fn constraints_in_range(constraints: [Constraint; Model::CONSTRAINTS], c: usize, s: u32) -> bool
-    requires { ⌜ c ≤ limits .constraints ⌝ }
-    ensures { λ r. ⌜ r ≡ every (constraintInRange s) (take c constraints) ⌝ }
+// ---- a model
+
+fn sizes_in_range(n: u32, s: u32, c: u32) -> bool
+    ensures { λ r. ⌜ r ≡ (between 1 (limits .entrants) n && between 1 (groupsFor n) s && leb c (limits .constraints)) ⌝ }
 {
+    if n < 1 {
+        return false;
+    }
+    if Model::ENTRANTS < n {
+        return false;
+    }
+    if s < 1 {
+        return false;
+    }
+    if model::groups_for(n) < s as usize {
+        return false;
+    }
+    c as usize <= Model::CONSTRAINTS
+}
+
+// False is refusal 20: the sizes, the first s groups, the first c constraints.
+pub fn in_range(m: Model) -> bool
+    ensures { λ r. ⌜ r ≡ inRange m ⌝ }
+{
+    if !sizes_in_range(m.n, m.s, m.c) {
+        return false;
+    }
+    let groups = m.groups;
+    let constraints = m.constraints;
+    model::whole(groups, constraints);
+    let mut i: usize = 0;
+    while i < m.s as usize {
+        let g = m.groups[i];
+        if !group_in_range(g, m.n) {
+            return false;
+        }
+        i += 1;
+    }
     let mut j: usize = 0;
-    while j < c {
-        let k = constraints[j];
-        if !constraint_in_range(k, s) {
+    while j < m.c as usize {
+        let l = m.constraints[j];
+        if !constraint_in_range(l, m.s) {
             return false;
         }
         j += 1;
     }
     true
-}
-
-// ---- a model
-
-// False is refusal 20.
-pub fn in_range(m: Model) -> bool
-    ensures { λ r. ⌜ r ≡ inRange m ⌝ }
-{
-    if m.n < 1 {
-        return false;
-    }
-    if Model::ENTRANTS < m.n {
-        return false;
-    }
-    if m.s < 1 {
-        return false;
-    }
-    if model::groups_for(m.n) < m.s as usize {
-        return false;
-    }
-    if Model::CONSTRAINTS < m.c as usize {
-        return false;
-    }
-    let groups = m.groups;
-    if !groups_in_range(groups, m.s as usize, m.n) {
-        return false;
-    }
-    let constraints = m.constraints;
-    constraints_in_range(constraints, m.c as usize, m.s)
 }

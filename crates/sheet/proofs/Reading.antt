@@ -13,14 +13,14 @@ use lib.Seq.{getD-drop, drop-drop}
 use Rattle.model.specs.declared.Group.{Group}
 use Rattle.model.specs.declared.Constraint.{Constraint}
 use Rattle.model.specs.declared.Model.{Model}
-use Rattle.model.specs.Lists.{stop, between}
+use Rattle.model.specs.Lists.{every, range, stop, between}
 use Rattle.model.specs.Limits.{limits, groupsFor}
 use Rattle.model.specs.Model.{zeroModel, codeInRange}
-use Rattle.model.specs.Sheet.{onFirst, linesOf, valueAt, formRefusal, headRefusal, withHead, groupFrom, withGroup, countFrom, groupCount, constraintFrom, constraintRefusal, withConstraint, lineRefusal, withLine, refusedSheet, afterLast, readLines}
+use Rattle.model.specs.Sheet.{onFirst, linesOf, valueAt, formRefusal, headRefusal, withHead, groupRefusal, groupFrom, withGroup, firstGroup, countFrom, groupCount, constraintFrom, constraintRefusal, withConstraint, lineRefusal, withLine, refusedSheet, afterLast, readLines}
 use Rattle.model.proofs.Lists.{between-le, true-T}
 use Rattle.model.proofs.Width.{groups-for}
 use Rattle.model.proofs.Codes.{member-bound}
-use Rattle.sheet.specs.Line.{lineLength}
+use Rattle.sheet.specs.Line.{lineLength, goodMark, GroupLine, ConstraintLine}
 use Rattle.sheet.proofs.Laws.{rest}
 
 -- ---- the first line of bytes that end in byte 10
@@ -88,6 +88,13 @@ passed : (b : Bool) (r rest : ℕ) → stop (not b) (suc r) rest ≡ 0 → (b �
 passed true r rest e = (refl, e)
 passed false r rest e = absurd (omega arith)
 
+form-good : (l : List ℕ) (rest : ℕ) → stop (not (eqb (formRefusal l) 0)) (formRefusal l) rest ≡ 0 → formRefusal l ≡ 0
+form-good l rest = go (eqb (formRefusal l) 0) refl
+  where
+    go : (b : Bool) → eqb (formRefusal l) 0 ≡ b → stop (not b) (formRefusal l) rest ≡ 0 → formRefusal l ≡ 0
+    go true p e = eqb-true (formRefusal l) 0 p
+    go false p e = e
+
 -- the number of refusal is not 0
 pub form-passed : (l : List ℕ) (rest : ℕ) → stop (not (eqb (formRefusal l) 0)) (formRefusal l) rest ≡ 0 → rest ≡ 0
 form-passed l rest = go (eqb (formRefusal l) 0) refl
@@ -113,6 +120,19 @@ module _ (n s c : ℕ) (l : List ℕ) where
         (le-trans (between-le 1 (groupsFor (valueAt l 1)) (valueAt l 2) (true-T _ (f .0)) .1) (groups-for (valueAt l 1)), leb-true (valueAt l 3) (limits .constraints) (g .0)),
       )
 
+  -- a group line
+  pub group-line : (done : ℕ) → lineRefusal n s c done l ≡ 0 → (done ≡ 0 → ⊥) → done ≤ s → GroupLine n l × (every (goodMark l) (range 0 n) ≡ true)
+  unfolding lineRefusal groupRefusal
+  group-line done e z h =
+      let g : groupRefusal n done l ≡ 0 = rw (ne-eqb done 0 z, le-leb done s h) at (form-passed l _ e) in
+      let a = passed (eqb (valueAt l 0) 2) 4 _ g in
+      let b = passed (eqb (length l / 4) (4 + n)) 5 _ (a .1) in
+      let d = passed (leb (valueAt l 2) (valueAt l 3)) 6 _ (b .1) in
+      let f = passed (leb (valueAt l 3) n) 6 _ (d .1) in
+      let k = passed (every (goodMark l) (range 0 n)) 6 _ (f .1) in
+      ((form-good l _ e, eqb-true (valueAt l 0) 2 (a .0), eqb-true (length l / 4) (4 + n) (b .0)), k .0)
+
+  -- a constraint line
   constraint-told : (done : ℕ) → lineRefusal n s c done l ≡ 0 → (done ≡ 0 → ⊥) → s < done → (done ≤ s + c) × (constraintRefusal s l ≡ 0)
   unfolding lineRefusal
   constraint-told done e z h = go (leb done (s + c)) refl (rw (ne-eqb done 0 z, lt-leb done s h) at (form-passed l _ e))
@@ -130,6 +150,14 @@ module _ (n s c : ℕ) (l : List ℕ) where
       let a = passed (eqb (valueAt l 0) 3) 4 _ (constraint-told done e z h .1) in
       let b = passed (codeInRange (valueAt l 1) (countFrom l)) 5 _ (a .1) in
       member-bound (valueAt l 1) (countFrom l) (true-T (codeInRange (valueAt l 1) (countFrom l)) (b .0))
+
+  pub constraint-line : (done : ℕ) → lineRefusal n s c done l ≡ 0 → (done ≡ 0 → ⊥) → s < done → ConstraintLine l
+  unfolding lineRefusal constraintRefusal
+  constraint-line done e z h =
+      let a = passed (eqb (valueAt l 0) 3) 4 _ (constraint-told done e z h .1) in
+      let b = passed (codeInRange (valueAt l 1) (countFrom l)) 5 _ (a .1) in
+      let d = passed (eqb (length l / 4) (firstGroup l + groupCount l)) 5 _ (b .1) in
+      (form-good l _ e, eqb-true (valueAt l 0) 3 (a .0), eqb-true (length l / 4) (firstGroup l + groupCount l) (d .0))
 
 -- ---- the model after a line
 

@@ -1,13 +1,14 @@
 // The sheet reader: a club's sheet, byte by byte, to a model. The first step of the chain.
 ghost use mathlib.Core.Path.{_≡_};
-ghost use Prim.Native.Nat.{ℕ, _≤_, _<_, _+_, _^_};
-ghost use mathlib.Core.Bool.{Bool, cond, _&&_};
+ghost use Prim.Native.Nat.{ℕ, _≤_, _<_, _+_, _/_, _^_};
+ghost use mathlib.Core.Bool.{Bool, true, cond, _&&_};
 ghost use mathlib.Core.List.{List};
 ghost use lib.Dec.{T, leb, eqb};
+ghost use lib.ListN.{length};
 ghost use Rattle.model.specs.Lists.{every, range};
 ghost use Rattle.model.specs.Limits.{limits};
-ghost use Rattle.model.specs.Sheet.{fieldAt, afterSpaces, fieldValue, digitsValue, fieldRefusal, fieldNumber, ifNone, orZero, numberIn, valueAt, formRefusal, headRefusal, markAt, groupRefusal, groupFrom, groupCount, firstGroup, countFrom, constraintFrom, constraintRefusal, lineRefusal, refusedSheet, readSheet};
-ghost use Rattle.sheet.specs.Line.{lineLength, goodMark};
+ghost use Rattle.model.specs.Sheet.{fieldAt, afterSpaces, fieldValue, digitsValue, fieldRefusal, fieldNumber, ifNone, orZero, numberIn, valueAt, formRefusal, headRefusal, markAt, groupRefusal, groupFrom, groupCount, countFrom, constraintFrom, constraintRefusal, lineRefusal, refusedSheet, readSheet};
+ghost use Rattle.sheet.specs.Line.{lineLength, goodMark, plainValue, GroupLine, ConstraintLine};
 ghost use Rattle.sheet.specs.Blanks.{sameButBlanks};
 use model::Constraint;
 use model::Digits;
@@ -89,14 +90,27 @@ fn value(line: &[u8], i: usize) -> u32
     v
 }
 
-// The mark of bit e in a group line; 0 where it is none.
+// The mark of bit e in a group line of good marks, by the last byte of its field.
 fn mark(line: &[u8], e: u32) -> u32
+    requires { ⌜ (formRefusal (now line) ≡ 0) × (valueAt (now line) 0 ≡ 2) × (4 + e < length (now line) / 4) × (markAt (now line) e ≤ 2) ⌝ }
     ensures { λ r. ⌜ r ≡ markAt (now (line .entry)) e ⌝ }
 {
-    let Digits::Number(v) = number_in(field(line, 4 + e as usize), true) else {
-        return 0;
-    };
-    v
+    let b = line[e as usize * 4 + 19];
+    if b == 32 {
+        return 1;
+    }
+    (b % 16) as u32
+}
+
+// The number in field i of a line in which each field has the right form: a space counts as a leading 0.
+fn plain(line: &[u8], i: usize) -> u32
+    requires { ⌜ i < length (now line) / 4 ⌝ }
+    ensures { λ r. ⌜ r ≡ plainValue 0 (fieldAt (now (line .entry)) i) ⌝ }
+{
+    let a = i * 4;
+    let x = (line[a] % 16) as u32 * 10 + (line[a + 1] % 16) as u32;
+    let y = (line[a + 2] % 16) as u32 * 10 + (line[a + 3] % 16) as u32;
+    x * 100 + y
 }
 
 // Whether field i is a mark column in a line whose first field is `kind`.
@@ -162,14 +176,16 @@ fn head_refusal(line: &[u8]) -> u32
     0
 }
 
-// Every mark of a group line is 0, 1 or 2.
+// Every mark of a group line is 0, 1 or 2: in a field of the right form, no digit before the last, and that at most 2.
 fn good_marks(line: &[u8], n: u32) -> bool
-    requires { ⌜ n ≤ limits .entrants ⌝ }
+    requires { ⌜ (n ≤ limits .entrants) × GroupLine n (now line) ⌝ }
     ensures { λ r. ⌜ r ≡ every (goodMark (now (line .entry))) (range 0 n) ⌝ }
 {
     let mut e: u32 = 0;
     while e < n {
-        if 2 < mark(line, e) {
+        let a = e as usize * 4 + 16;
+        let high = (line[a] % 16 != 0) | (line[a + 1] % 16 != 0) | (line[a + 2] % 16 != 0);
+        if high | (2 < line[a + 3] % 16) {
             return false;
         }
         e += 1;
@@ -179,7 +195,7 @@ fn good_marks(line: &[u8], n: u32) -> bool
 
 // Refusals 5 to 8 of the line of group g.
 fn group_refusal(n: u32, g: u32, line: &[u8]) -> u32
-    requires { ⌜ n ≤ limits .entrants ⌝ }
+    requires { ⌜ (n ≤ limits .entrants) × (formRefusal (now line) ≡ 0) ⌝ }
     ensures { λ r. ⌜ r ≡ groupRefusal n g (now (line .entry)) ⌝ }
 {
     if value(line, 0) != 2 {
@@ -217,7 +233,7 @@ fn with_bit(w: u64, e: u32, on: bool) -> u64
 
 // The group of a group line with n marks.
 fn read_group(n: u32, line: &[u8]) -> Group
-    requires { ⌜ n ≤ limits .entrants ⌝ }
+    requires { ⌜ (n ≤ limits .entrants) × GroupLine n (now line) × (every (goodMark (now line)) (range 0 n) ≡ true) ⌝ }
     ensures { λ r. ⌜ r ≡ groupFrom n (now (line .entry)) ⌝ }
 {
     let mut fixed: u64 = 0;
@@ -237,44 +253,46 @@ fn read_group(n: u32, line: &[u8]) -> Group
     }
 }
 
-// The count of a constraint line: k of code 6, 0 of every other.
-fn count_from(line: &[u8]) -> u32
+// The count of a constraint line of that code: k of code 6, 0 of every other.
+fn count_from(line: &[u8], code: u32) -> u32
+    requires { ⌜ code ≡ valueAt (now line) 1 ⌝ }
     ensures { λ r. ⌜ r ≡ countFrom (now (line .entry)) ⌝ }
 {
-    if value(line, 1) == 6 {
+    if code == 6 {
         return value(line, 2);
     }
     0
 }
 
-// The field of a constraint line's first group.
-fn first_group(line: &[u8]) -> usize
-    ensures { λ r. ⌜ r ≡ firstGroup (now (line .entry)) ⌝ }
+// The field of a constraint line's first group, by its code.
+fn first_group(code: u32) -> usize
+    ensures { λ r. ⌜ r ≡ cond (eqb code 6) 3 2 ⌝ }
 {
-    if value(line, 1) == 6 {
+    if code == 6 {
         return 3;
     }
     2
 }
 
-// How many groups a constraint line names.
-fn group_count(line: &[u8]) -> usize
+// How many groups a constraint line of that code names.
+fn group_count(line: &[u8], code: u32) -> usize
+    requires { ⌜ code ≡ valueAt (now line) 1 ⌝ }
     ensures { λ r. ⌜ r ≡ groupCount (now (line .entry)) ⌝ }
 {
-    range::member_count(value(line, 1), count_from(line))
+    range::member_count(code, count_from(line, code))
 }
 
-// The numbers of a constraint line's k groups, then zeros.
-fn read_numbers(line: &[u8], k: usize) -> [u32; Model::MEMBERS]
-    requires { ⌜ k ≤ limits .members ⌝ }
-    requires { ⌜ k ≡ groupCount (now line) ⌝ }
+// The numbers of the k groups of a constraint line of that code, then zeros.
+fn read_numbers(line: &[u8], code: u32, k: usize) -> [u32; Model::MEMBERS]
+    requires { ⌜ (k ≤ limits .members) × (k ≡ groupCount (now line)) × (code ≡ valueAt (now line) 1) ⌝ }
+    requires { ⌜ ConstraintLine (now line) ⌝ }
     ensures { λ r. ⌜ r ≡ constraintFrom (now (line .entry)) .groups ⌝ }
 {
-    let a = first_group(line);
+    let a = first_group(code);
     let mut groups: [u32; Model::MEMBERS] = [0; Model::MEMBERS];
     let mut i: usize = 0;
     while i < k {
-        groups[i] = value(line, a + i);
+        groups[i] = plain(line, a + i);
         i += 1;
     }
     groups
@@ -282,33 +300,36 @@ fn read_numbers(line: &[u8], k: usize) -> [u32; Model::MEMBERS]
 
 // The constraint of a constraint line.
 fn read_constraint(line: &[u8]) -> Constraint
-    requires { ⌜ groupCount (now line) ≤ limits .members ⌝ }
+    requires { ⌜ (groupCount (now line) ≤ limits .members) × ConstraintLine (now line) ⌝ }
     ensures { λ r. ⌜ r ≡ constraintFrom (now (line .entry)) ⌝ }
 {
-    let k = group_count(line);
-    let groups = read_numbers(line, k);
+    let code = value(line, 1);
+    let k = group_count(line, code);
+    let groups = read_numbers(line, code, k);
     Constraint {
-        code: value(line, 1),
-        count: count_from(line),
+        code,
+        count: count_from(line, code),
         groups,
     }
 }
 
 // Refusals 5 to 9 of a constraint line.
 fn constraint_refusal(s: u32, line: &[u8]) -> u32
+    requires { ⌜ formRefusal (now line) ≡ 0 ⌝ }
     ensures { λ r. ⌜ r ≡ constraintRefusal s (now (line .entry)) ⌝ }
 {
     if value(line, 0) != 3 {
         return 5;
     }
-    if !range::code_in_range(value(line, 1), count_from(line)) {
+    let code = value(line, 1);
+    if !range::code_in_range(code, count_from(line, code)) {
         return 6;
     }
-    let k = group_count(line);
-    if line.len() / 4 != first_group(line) + k {
+    let k = group_count(line, code);
+    if line.len() / 4 != first_group(code) + k {
         return 6;
     }
-    let groups = read_numbers(line, k);
+    let groups = read_numbers(line, code, k);
     if !range::all_between(groups, k, s) {
         return 7;
     }
@@ -339,11 +360,21 @@ fn line_refusal(n: u32, s: u32, c: u32, done: u32, line: &[u8]) -> u32
     5
 }
 
-// The length of the first line.
+// The length of the first line: sixteen bytes at a time while none of them ends it, then byte by byte.
 pub fn line_length(s: &[u8]) -> usize
     ensures { λ r. ⌜ r ≡ lineLength (now (s .entry)) ⌝ }
 {
     let mut i: usize = 0;
+    while 16 <= s.len() - i {
+        let a = (s[i] == 10) | (s[i + 1] == 10) | (s[i + 2] == 10) | (s[i + 3] == 10);
+        let b = (s[i + 4] == 10) | (s[i + 5] == 10) | (s[i + 6] == 10) | (s[i + 7] == 10);
+        let c = (s[i + 8] == 10) | (s[i + 9] == 10) | (s[i + 10] == 10) | (s[i + 11] == 10);
+        let d = (s[i + 12] == 10) | (s[i + 13] == 10) | (s[i + 14] == 10) | (s[i + 15] == 10);
+        if a | b | c | d {
+            break;
+        }
+        i += 16;
+    }
     while i < s.len() {
         if s[i] == 10 {
             return i;

@@ -36,13 +36,13 @@ pub(crate) fn difference_holds(
     values: &[u8],
     groups: [Group; Model::GROUPS],
     l: Constraint,
-    words: [u64; Model::GROUPS],
+    words: &[u64; Model::GROUPS],
     n: u32,
     s: usize,
     x: usize,
 ) -> bool
     requires { ⌜ (n ≤ limits .entrants) × (x < 10000000000) ⌝ }
-    ensures { λ r. ⌜ r ≡ differenceHolds (assignmentOf (now (values .entry))) (take s groups) words n x l ⌝ }
+    ensures { λ r. ⌜ r ≡ differenceHolds (assignmentOf (now (values .entry))) (take s groups) (now (words .entry)) n x l ⌝ }
 {
     if difference::is_apart(groups, s, l) {
         return true;

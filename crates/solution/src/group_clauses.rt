@@ -122,12 +122,12 @@ pub(crate) fn word_of(values: &[u8], g: Group, v: usize, n: u32) -> u64
 pub(crate) fn words(
     values: &[u8],
     groups: [Group; Model::GROUPS],
-    first: [u32; Model::GROUPS],
+    first: &[u32; Model::GROUPS],
     n: u32,
     s: u32,
 ) -> [u64; Model::GROUPS]
     requires { ⌜ (n ≤ limits .entrants) × (s ≤ limits .groups) ⌝ }
-    requires { ⌜ first ≡ firstVariables (take s groups) ⌝ }
+    requires { ⌜ now first ≡ firstVariables (take s groups) ⌝ }
     ensures { λ r. ⌜ (length r ≡ limits .groups) × (r ≡ tableWords n (assignmentOf (now (values .entry))) (take s groups) s) ⌝ }
 {
     let end = s as usize;
@@ -189,14 +189,14 @@ fn group_holds(values: &[u8], g: Group, w: u64, v: usize, o: usize) -> bool
 pub(crate) fn groups_hold(
     values: &[u8],
     groups: [Group; Model::GROUPS],
-    first: [u32; Model::GROUPS],
-    outputs: [u32; Model::GROUPS],
-    words: [u64; Model::GROUPS],
+    first: &[u32; Model::GROUPS],
+    outputs: &[u32; Model::GROUPS],
+    words: &[u64; Model::GROUPS],
     s: u32,
 ) -> bool
     requires { ⌜ s ≤ limits .groups ⌝ }
-    requires { ⌜ (first ≡ firstVariables (take s groups)) × (outputs ≡ firstOutputs (take s groups)) ⌝ }
-    ensures { λ r. ⌜ r ≡ every (groupHoldsAt (assignmentOf (now (values .entry))) (take s groups) words) (range 1 s) ⌝ }
+    requires { ⌜ (now first ≡ firstVariables (take s groups)) × (now outputs ≡ firstOutputs (take s groups)) ⌝ }
+    ensures { λ r. ⌜ r ≡ every (groupHoldsAt (assignmentOf (now (values .entry))) (take s groups) (now (words .entry))) (range 1 s) ⌝ }
 {
     let end = s as usize;
     let mut i: usize = 0;

@@ -46,19 +46,19 @@ fn constraint_holds(
     values: &[u8],
     groups: [Group; Model::GROUPS],
     l: Constraint,
-    words: [u64; Model::GROUPS],
+    words: &[u64; Model::GROUPS],
     n: u32,
     s: usize,
     x: usize,
 ) -> bool
     requires { ⌜ (n ≤ limits .entrants) × (x < 10000000000) ⌝ }
-    ensures { λ r. ⌜ r ≡ constraintHolds (assignmentOf (now (values .entry))) (take s groups) words n x l ⌝ }
+    ensures { λ r. ⌜ r ≡ constraintHolds (assignmentOf (now (values .entry))) (take s groups) (now (words .entry)) n x l ⌝ }
 {
     if l.code == 7 {
         return difference_holds(values, groups, l, words, n, s, x);
     }
     let ids = l.groups;
-    constraint_clauses::constraint_holds(words, ids, model::entrants(n), l.code, l.count)
+    constraint_clauses::constraint_holds(words, &ids, model::entrants(n), l.code, l.count)
 }
 
 // The clauses of the first c constraints, whose first X are given.
@@ -66,15 +66,15 @@ fn constraints_hold(
     values: &[u8],
     groups: [Group; Model::GROUPS],
     constraints: [Constraint; Model::CONSTRAINTS],
-    differences: [u32; Model::CONSTRAINTS],
-    words: [u64; Model::GROUPS],
+    differences: &[u32; Model::CONSTRAINTS],
+    words: &[u64; Model::GROUPS],
     n: u32,
     s: usize,
     c: usize,
 ) -> bool
     requires { ⌜ (n ≤ limits .entrants) × (c ≤ limits .constraints) ⌝ }
-    requires { ⌜ differences ≡ differencesFrom (1 + tableVariables (take s groups)) (take s groups) (take c constraints) ⌝ }
-    ensures { λ r. ⌜ r ≡ every (constraintHoldsAt (assignmentOf (now (values .entry))) (take s groups) (take c constraints) words n) (range 0 c) ⌝ }
+    requires { ⌜ now differences ≡ differencesFrom (1 + tableVariables (take s groups)) (take s groups) (take c constraints) ⌝ }
+    ensures { λ r. ⌜ r ≡ every (constraintHoldsAt (assignmentOf (now (values .entry))) (take s groups) (take c constraints) (now (words .entry)) n) (range 0 c) ⌝ }
 {
     let mut j: usize = 0;
     while j < c {
@@ -94,18 +94,18 @@ fn clauses_hold(
     groups: [Group; Model::GROUPS],
     constraints: [Constraint; Model::CONSTRAINTS],
     v: Numbering,
-    words: [u64; Model::GROUPS],
+    words: &[u64; Model::GROUPS],
     n: u32,
     s: u32,
     c: u32,
 ) -> bool
     requires { ⌜ (n ≤ limits .entrants) × (s ≤ limits .groups) × (c ≤ limits .constraints) ⌝ }
     requires { ⌜ (v .first ≡ firstVariables (take s groups)) × (v .outputs ≡ firstOutputs (take s groups)) × (v .differences ≡ differencesFrom (1 + tableVariables (take s groups)) (take s groups) (take c constraints)) ⌝ }
-    ensures { λ r. ⌜ r ≡ clausesHold (assignmentOf (now (values .entry))) (take s groups) (take c constraints) words n s c ⌝ }
+    ensures { λ r. ⌜ r ≡ clausesHold (assignmentOf (now (values .entry))) (take s groups) (take c constraints) (now (words .entry)) n s c ⌝ }
 {
     let first = v.first;
     let outputs = v.outputs;
-    if !groups_hold(values, groups, first, outputs, words, s) {
+    if !groups_hold(values, groups, &first, &outputs, words, s) {
         return false;
     }
     let differences = v.differences;
@@ -113,7 +113,7 @@ fn clauses_hold(
         values,
         groups,
         constraints,
-        differences,
+        &differences,
         words,
         n,
         s as usize,
@@ -152,8 +152,8 @@ pub fn close(m: Model, r: Reading, values: &[u8]) -> Closed
     let constraints = m.constraints;
     model::whole(groups, constraints);
     let first = v.first;
-    let found = words(values, groups, first, m.n, m.s);
-    if !clauses_hold(values, groups, constraints, v, found, m.n, m.s, m.c) {
+    let found = words(values, groups, &first, m.n, m.s);
+    if !clauses_hold(values, groups, constraints, v, &found, m.n, m.s, m.c) {
         return refused(28);
     }
     Closed {

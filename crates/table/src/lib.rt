@@ -47,7 +47,7 @@ pub fn unpacked(groups: [Group; Model::GROUPS]) -> Table
 // ---- groups 1 to s
 
 // The arrays have the lengths of their types.
-fn sized(
+pub fn sized(
     fixed: [u64; Model::GROUPS],
     possible: [u64; Model::GROUPS],
     low: [u32; Model::GROUPS],

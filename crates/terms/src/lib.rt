@@ -29,17 +29,6 @@ pub fn opposite(t: Term) -> Term
     }
 }
 
-fn put_term(buf: &mut [u8], at: usize, t: Term) -> usize
-    requires { ⌜ at + length (termText t) ≤ length (now buf) ⌝ }
-    ensures { λ r. ⌜ Wrote (termText t) at (now (buf .entry)) (now (buf .exit)) r ⌝ }
-{
-    match t {
-        Term::Holds => at,
-        Term::Fails => at,
-        Term::Open(l) => text::put_literal(buf, at, l),
-    }
-}
-
 // ---- the members of a constraint
 
 // What a constraint asks of one of its groups: the words and the first variable.
@@ -303,7 +292,7 @@ fn write_clause(
     let mut i: usize = 0;
     while i < k {
         let t = clause_term(ns, code, count, j, k, i);
-        n = put_term(buf, n, t);
+        n = text::put_term(buf, n, t);
         i += 1;
     }
     buf[n] = 48;

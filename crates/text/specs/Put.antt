@@ -1,8 +1,8 @@
 -- What a writer does to a buffer: a text at a place, where there is room for it, and nothing else. Assumes nothing.
-use Prim.Native.Nat.{ℕ, _+_, _≤_}
+use Prim.Native.Nat.{ℕ, _+_, _/_, _%_, _≤_}
 use mathlib.Core.Path.{_≡_}
 use mathlib.Core.Bool.{cond}
-use mathlib.Core.List.{List, [], _++_}
+use mathlib.Core.List.{List, [], _∷_, _++_}
 use lib.Dec.{leb}
 use lib.ListN.{length, take, drop}
 use Rattle.model.specs.declared.Term.{Term}
@@ -28,6 +28,10 @@ pub record Wrote (text : List ℕ) (at : ℕ) (before after : List ℕ) (r : ℕ
   pub next : r ≡ at + length text
   pub inside : r ≤ length before
   pub bytes : after ≡ over at text before
+
+-- the last four digits of v
+abbrev pub lastFour : ℕ → List ℕ
+lastFour v = (48 + v / 10 / 10 / 10 % 10) ∷ (48 + v / 10 / 10 % 10) ∷ (48 + v / 10 % 10) ∷ (48 + v % 10) ∷ []
 
 -- ---- a clause of which some terms are known
 

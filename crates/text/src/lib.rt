@@ -1,4 +1,4 @@
-// Numbers, literals, fields and clauses of three terms as text in a buffer of the caller's. Each public writer is total: where there is no room nothing changes, and the answer
+// Numbers, terms, fields and clauses of three terms as text in a buffer of the caller's. Each public writer is total: where there is no room nothing changes, and the answer
 // is the place that it was given.
 ghost use mathlib.Core.Path.{_≡_};
 ghost use mathlib.Core.List.{[], _∷_, _++_};
@@ -8,7 +8,7 @@ ghost use lib.ListN.{length, replicate};
 ghost use Rattle.model.specs.Lists.{any, each};
 ghost use Rattle.model.specs.Text.{decimal, literalText, fieldText};
 ghost use Rattle.model.specs.Totalizer.{holds};
-ghost use Rattle.text.specs.Put.{Wrote, placed, placeAfter, termText, keptText};
+ghost use Rattle.text.specs.Put.{Wrote, placed, placeAfter, lastFour, termText, keptText};
 use model::Literal;
 use model::Term;
 
@@ -70,7 +70,45 @@ fn write_small(buf: &mut [u8], at: usize, v: u32) -> usize
     c + 1
 }
 
-// The decimal text of v, three digits at a time. A variable has at most six.
+// The four digits of v below 10,000, as the bytes of a word: v / 100 and v % 100 side by side, then the tens of both, then four times 48 added.
+// v * 5243 / 524288 is v / 100 there, and 103 / 1024 a tenth below 100: one multiplication each.
+fn write_four(buf: &mut [u8], at: usize, v: u32) -> usize
+    requires { ⌜ v < 10000 ⌝ }
+    requires { ⌜ at + 4 ≤ length (now buf) ⌝ }
+    ensures { λ r. ⌜ Wrote (lastFour v) at (now (buf .entry)) (now (buf .exit)) r ⌝ }
+{
+    let high = v * 5243 / 524288;
+    let pairs = v * 65536 - high * 6553599;
+    let x = pairs * 103 / 1024;
+    let tens = x % 16 + x / 65536 % 16 * 65536;
+    let w = pairs * 256 - tens * 2559 + 808464432;
+    buf[at] = (w % 256) as u8;
+    let b = at + 1;
+    buf[b] = (w / 256 % 256) as u8;
+    let c = b + 1;
+    buf[c] = (w / 65536 % 256) as u8;
+    let d = c + 1;
+    buf[d] = (w / 16777216) as u8;
+    d + 1
+}
+
+// The decimal text of v below 10,000,000.
+fn write_middle(buf: &mut [u8], at: usize, v: u32) -> usize
+    requires { ⌜ v < 10000000 ⌝ }
+    requires { ⌜ at + length (decimal v) ≤ length (now buf) ⌝ }
+    ensures { λ r. ⌜ Wrote (decimal v) at (now (buf .entry)) (now (buf .exit)) r ⌝ }
+{
+    if v < 1000 {
+        return write_small(buf, at, v);
+    }
+    if v < 10000 {
+        return write_four(buf, at, v);
+    }
+    let n = write_small(buf, at, v / 10000);
+    write_four(buf, n, v % 10000)
+}
+
+// The decimal text of v. Most are variables, of at most five digits.
 fn write_number(buf: &mut [u8], at: usize, v: u32) -> usize
     requires { ⌜ at + length (decimal v) ≤ length (now buf) ⌝ }
     ensures { λ r. ⌜ Wrote (decimal v) at (now (buf .entry)) (now (buf .exit)) r ⌝ }
@@ -78,26 +116,11 @@ fn write_number(buf: &mut [u8], at: usize, v: u32) -> usize
     if v < 1000 {
         return write_small(buf, at, v);
     }
-    if v < 1000000 {
-        let q = v / 10;
-        let p = q / 10;
-        let n = write_small(buf, at, p / 10);
-        buf[n] = 48 + (p % 10) as u8;
-        let b = n + 1;
-        buf[b] = 48 + (q % 10) as u8;
-        let c = b + 1;
-        buf[c] = 48 + (v % 10) as u8;
-        return c + 1;
+    if v < 10000 {
+        return write_four(buf, at, v);
     }
-    let q = v / 10;
-    let p = q / 10;
-    let n = write_number(buf, at, p / 10);
-    buf[n] = 48 + (p % 10) as u8;
-    let b = n + 1;
-    buf[b] = 48 + (q % 10) as u8;
-    let c = b + 1;
-    buf[c] = 48 + (v % 10) as u8;
-    c + 1
+    let n = write_middle(buf, at, v / 10000);
+    write_four(buf, n, v % 10000)
 }
 
 // A number has at most ten digits.
@@ -127,59 +150,91 @@ pub fn put_number(buf: &mut [u8], at: usize, v: u32) -> usize
     at
 }
 
-// ---- literals
+// ---- terms, and literals. A term is taken apart down to its variable where it is read: a literal that is handed on whole is a load that waits for two stores.
 
-// How many bytes a literal's text has.
-pub fn literal_length(l: Literal) -> usize
-    ensures { λ r. ⌜ r ≡ length (literalText l) ⌝ }
-    ensures { λ r. ⌜ r ≤ 12 ⌝ }
+pub fn is_true(t: Term) -> bool
+    ensures { λ r. ⌜ r ≡ holds t ⌝ }
 {
-    match l {
-        Literal::Pos(v) => number_length(v) + 1,
-        Literal::Neg(v) => number_length(v) + 2,
+    match t {
+        Term::Holds => true,
+        Term::Fails => false,
+        Term::Open(_) => false,
     }
 }
 
-fn write_literal(buf: &mut [u8], at: usize, l: Literal) -> usize
-    requires { ⌜ at + length (literalText l) ≤ length (now buf) ⌝ }
-    ensures { λ r. ⌜ Wrote (literalText l) at (now (buf .entry)) (now (buf .exit)) r ⌝ }
+// How many bytes a term's text has: none where it is known.
+pub fn term_length(t: Term) -> usize
+    ensures { λ r. ⌜ (r ≡ length (termText t)) × (r ≤ 12) ⌝ }
 {
-    match l {
-        Literal::Pos(v) => {
-            let n = write_number(buf, at, v);
-            buf[n] = 32;
-            n + 1
-        }
-        Literal::Neg(v) => {
-            buf[at] = 45;
-            let n = write_number(buf, at + 1, v);
-            buf[n] = 32;
-            n + 1
-        }
+    match t {
+        Term::Holds => 0,
+        Term::Fails => 0,
+        Term::Open(l) => match l {
+            Literal::Pos(v) => number_length(v) + 1,
+            Literal::Neg(v) => number_length(v) + 2,
+        },
     }
 }
 
-// The most bytes of a literal: its digits, a minus sign and a space.
-const LITERAL: usize = DIGITS + 2;
-
-fn short_literal(l: Literal)
-    ensures { λ r. ⌜ length (literalText l) ≤ 12 ⌝ }
+fn write_term(buf: &mut [u8], at: usize, t: Term) -> usize
+    requires { ⌜ at + length (termText t) ≤ length (now buf) ⌝ }
+    ensures { λ r. ⌜ Wrote (termText t) at (now (buf .entry)) (now (buf .exit)) r ⌝ }
 {
-    match l {
-        Literal::Pos(v) => short_number(v),
-        Literal::Neg(v) => short_number(v),
+    match t {
+        Term::Holds => at,
+        Term::Fails => at,
+        Term::Open(l) => match l {
+            Literal::Pos(v) => {
+                let n = write_number(buf, at, v);
+                buf[n] = 32;
+                n + 1
+            }
+            Literal::Neg(v) => {
+                buf[at] = 45;
+                let n = write_number(buf, at + 1, v);
+                buf[n] = 32;
+                n + 1
+            }
+        },
     }
 }
 
-// Whether a literal at `at` ends within `len` bytes.
-fn literal_fits(l: Literal, at: usize, len: usize) -> bool
-    ensures { λ r. ⌜ r ≡ leb (at + length (literalText l)) len ⌝ }
+// The most bytes of a term: its digits, a minus sign and a space.
+const TERM: usize = DIGITS + 2;
+
+fn short_term(t: Term)
+    ensures { λ r. ⌜ length (termText t) ≤ 12 ⌝ }
 {
-    short_literal(l);
-    if ends_within(LITERAL, at, len) {
+    match t {
+        Term::Holds => {}
+        Term::Fails => {}
+        Term::Open(l) => match l {
+            Literal::Pos(v) => short_number(v),
+            Literal::Neg(v) => short_number(v),
+        },
+    }
+}
+
+// Whether a term at `at` ends within `len` bytes. It is measured only where the longest would not.
+fn term_fits(t: Term, at: usize, len: usize) -> bool
+    ensures { λ r. ⌜ r ≡ leb (at + length (termText t)) len ⌝ }
+{
+    short_term(t);
+    if ends_within(TERM, at, len) {
         return true;
     }
-    ends_within(literal_length(l), at, len)
+    ends_within(term_length(t), at, len)
+}
+
+// A term, where it fits.
+pub fn put_term(buf: &mut [u8], at: usize, t: Term) -> usize
+    ensures { λ r. ⌜ r ≡ placeAfter (termText t) at (length (now (buf .entry))) ⌝ }
+    ensures { λ r. ⌜ now (buf .exit) ≡ placed (termText t) at (now (buf .entry)) ⌝ }
+{
+    if term_fits(t, at, buf.len()) {
+        return write_term(buf, at, t);
+    }
+    at
 }
 
 // A literal, where it fits.
@@ -187,10 +242,7 @@ pub fn put_literal(buf: &mut [u8], at: usize, l: Literal) -> usize
     ensures { λ r. ⌜ r ≡ placeAfter (literalText l) at (length (now (buf .entry))) ⌝ }
     ensures { λ r. ⌜ now (buf .exit) ≡ placed (literalText l) at (now (buf .entry)) ⌝ }
 {
-    if literal_fits(l, at, buf.len()) {
-        return write_literal(buf, at, l);
-    }
-    at
+    put_term(buf, at, Term::Open(l))
 }
 
 // ---- bytes and fields
@@ -256,27 +308,6 @@ pub fn put_field(buf: &mut [u8], at: usize, v: u32) -> usize
 
 // ---- a clause of three terms
 
-pub fn is_true(t: Term) -> bool
-    ensures { λ r. ⌜ r ≡ holds t ⌝ }
-{
-    match t {
-        Term::Holds => true,
-        Term::Fails => false,
-        Term::Open(_) => false,
-    }
-}
-
-// How many bytes a term's text has: none where it is known.
-pub fn term_length(t: Term) -> usize
-    ensures { λ r. ⌜ (r ≡ length (termText t)) × (r ≤ 12) ⌝ }
-{
-    match t {
-        Term::Holds => 0,
-        Term::Fails => 0,
-        Term::Open(l) => literal_length(l),
-    }
-}
-
 // Whether one of three terms is true.
 fn one_true(x: Term, y: Term, z: Term) -> bool
     ensures { λ r. ⌜ r ≡ any holds (x ∷ y ∷ z ∷ []) ⌝ }
@@ -288,16 +319,6 @@ fn one_true(x: Term, y: Term, z: Term) -> bool
         return true;
     }
     is_true(z)
-}
-
-fn short_term(t: Term)
-    ensures { λ r. ⌜ length (termText t) ≤ 12 ⌝ }
-{
-    match t {
-        Term::Holds => {}
-        Term::Fails => {}
-        Term::Open(l) => short_literal(l),
-    }
 }
 
 // The most bytes of a clause of three terms.
@@ -318,17 +339,6 @@ fn three_fits(x: Term, y: Term, z: Term, at: usize, len: usize) -> bool
         at,
         len,
     )
-}
-
-fn write_term(buf: &mut [u8], at: usize, t: Term) -> usize
-    requires { ⌜ at + length (termText t) ≤ length (now buf) ⌝ }
-    ensures { λ r. ⌜ Wrote (termText t) at (now (buf .entry)) (now (buf .exit)) r ⌝ }
-{
-    match t {
-        Term::Holds => at,
-        Term::Fails => at,
-        Term::Open(l) => write_literal(buf, at, l),
-    }
 }
 
 // The clause of three terms, none of them true, at the start of buf.

@@ -59,7 +59,7 @@ fn write_back(m: Model, text: &[u8], values: &mut [u8]) {
         return;
     }
     let groups = r.groups;
-    let refusal = filling::fill(m, groups, values);
+    let refusal = filling::fill(m, &groups, values);
     if refusal != 0 {
         say(STDOUT_FILENO, report::refused(refusal));
         return;

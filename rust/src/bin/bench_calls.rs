@@ -1,9 +1,11 @@
 //! `bench_calls TITLE SHEET ANSWER RUNS`: the calls of the static library beside this crate's, in one process; prints rows of a table in microseconds, the last two nanoseconds a byte and a ratio.
+//! `bench_calls SHEET RUNS`: settling alone, from a model's words; prints the microseconds of both sides, and of the proved call with n = 0, which ends once the words are taken.
 use counterpart::compare::blanks::rewritten;
 use counterpart::compare::calls::{settled, Calls, Counterpart};
 use counterpart::encode::Encoding;
 use counterpart::listing::listing;
 use counterpart::sheet::{read as read_model, write as write_model};
+use counterpart::words::to_words;
 use std::hint::black_box;
 use std::time::Instant;
 
@@ -82,12 +84,12 @@ fn marks(calls: &dyn Calls, input: &Input) -> Vec<u8> {
 }
 
 /// Median microseconds of each side, their runs taking turns.
-fn measure(work: Work, sides: [&dyn Calls; 2], input: &Input, runs: usize) -> [f64; 2] {
+fn measure(work: impl Fn(&dyn Calls), sides: [&dyn Calls; 2], runs: usize) -> [f64; 2] {
     let mut times = [Vec::new(), Vec::new()];
     for _ in 0..runs {
         for (calls, times) in sides.into_iter().zip(&mut times) {
             let start = Instant::now();
-            work(calls, input);
+            work(calls);
             times.push(start.elapsed().as_secs_f64() * 1e6);
         }
     }
@@ -107,9 +109,32 @@ fn other() -> Option<&'static dyn Calls> {
     None
 }
 
+/// Settling alone.
+fn settle_model(sheet: &str, runs: &str) {
+    let Some(other) = other() else { return println!("not built") };
+    let runs = runs.parse().expect("a number of runs");
+    let words = to_words(&read_model(&std::fs::read(sheet).expect("the sheet")).expect("a sheet"), 0);
+    let mut out_of_range = words.clone();
+    out_of_range[0] = 0;
+    let call = |words: &[u64]| {
+        measure(
+            |calls| {
+                black_box(calls.settle_model(words, &mut [0; 1024]));
+            },
+            [other, &Counterpart],
+            runs,
+        )
+    };
+    let ([proved, rust], [taken, _]) = (call(&words), call(&out_of_range));
+    println!("{proved:.1} {rust:.1} {taken:.1}");
+}
+
 fn main() {
     let words: Vec<String> = std::env::args().collect();
-    let [_, title, sheet, answer, runs] = &words[..] else { panic!("usage: bench_calls TITLE SHEET ANSWER RUNS") };
+    if let [_, sheet, runs] = &words[..] {
+        return settle_model(sheet, runs);
+    }
+    let [_, title, sheet, answer, runs] = &words[..] else { panic!("usage: bench_calls TITLE SHEET ANSWER RUNS, or bench_calls SHEET RUNS") };
     let sheet = std::fs::read(sheet).expect("the sheet");
     let answer = std::fs::read(answer).expect("the answer");
     let settled = settled(&sheet).expect("a sheet that settles");
@@ -128,7 +153,7 @@ fn main() {
     };
     let runs = runs.parse().expect("a number of runs");
     let times = STEPS.map(|(step, work)| {
-        let [proved, rust] = measure(work, [other, &Counterpart], &input, runs);
+        let [proved, rust] = measure(|calls| work(calls, &input), [other, &Counterpart], runs);
         println!("| {step} | {title} | {proved:.0} | {rust:.0} | {:.2} |", proved / rust);
         [proved, rust]
     });

@@ -38,10 +38,10 @@ loop-less : tie.Need-loop-less Inv-loop μ-loop
 loop-less c = omega arith
 
 loop-again : tie.Need-loop-again Inv-loop μ-loop
-loop-again c = ((c .before .before .before .loop .inv .0), clause-next (c .before .before .before .before .before .args .words) (c .before .before .before .before .before .args .ids) (c .before .before .before .before .before .args .all) _ (c .before .before .before .loop .w) (c .before .before .before .loop .i) (c .before .before .before .loop .inv .1) _ _ (omega (arith, (c .before .before .before .loop .inv .0))) (c .before .literal-at .ensures) (c .literal-word .ensures))
+loop-again c = ((c .before .before .before .loop .inv .0), clause-next (c .before .before .before .before .before .args .words .now) (c .before .before .before .before .before .args .ids .now) (c .before .before .before .before .before .args .all) _ (c .before .before .before .loop .w) (c .before .before .before .loop .i) (c .before .before .before .loop .inv .1) _ _ (omega (arith, (c .before .before .before .loop .inv .0))) (c .before .literal-at .ensures) (c .literal-word .ensures))
 
 returns : tie.Need-returns Inv-loop μ-loop
-returns c = clause-done (c .before .before .before .args .words) (c .before .before .before .args .ids) (c .before .before .before .args .all) _ (c .before .loop .w) (c .before .loop .i) (c .before .loop .inv .1) (omega (arith, (c .before .loop .inv .0)))
+returns c = clause-done (c .before .before .before .args .words .now) (c .before .before .before .args .ids .now) (c .before .before .before .args .all) _ (c .before .loop .w) (c .before .loop .i) (c .before .loop .inv .1) (omega (arith, (c .before .loop .inv .0)))
 
 pub clause-word-spec : {M : Type 1} → statement M
 clause-word-spec =

@@ -30,7 +30,7 @@ clause-word-requires : tie.Need-clause-word-requires Inv-loop μ-loop
 clause-word-requires c κs = search needs
 
 returns : tie.Need-returns Inv-loop μ-loop
-returns c = clause-fails (c .before .before .before .before .before .args .words) (c .before .before .before .before .before .args .ids) (c .before .before .before .before .before .args .all) _ (c .before .before .before .loop .j) (c .before .before .before .loop .inv .1) (omega (arith, (c .before .before .before .loop .inv .0))) _ (c .before .clause-word .ensures) (c .if1 .taken)
+returns c = clause-fails (c .before .before .before .before .before .args .words .now) (c .before .before .before .before .before .args .ids .now) (c .before .before .before .before .before .args .all) _ (c .before .before .before .loop .j) (c .before .before .before .loop .inv .1) (omega (arith, (c .before .before .before .loop .inv .0))) _ (c .before .clause-word .ensures) (c .if1 .taken)
 
 add-j : tie.Need-add-j Inv-loop μ-loop
 add-j c = omega arith
@@ -39,10 +39,10 @@ loop-less : tie.Need-loop-less Inv-loop μ-loop
 loop-less c = omega arith
 
 loop-again : tie.Need-loop-again Inv-loop μ-loop
-loop-again c = ((c .before .before .before .loop .inv .0), clause-passes (c .before .before .before .before .before .args .words) (c .before .before .before .before .before .args .ids) (c .before .before .before .before .before .args .all) _ (c .before .before .before .loop .j) (c .before .before .before .loop .inv .1) (omega (arith, (c .before .before .before .loop .inv .0))) _ (c .before .clause-word .ensures) (c .if1 .left))
+loop-again c = ((c .before .before .before .loop .inv .0), clause-passes (c .before .before .before .before .before .args .words .now) (c .before .before .before .before .before .args .ids .now) (c .before .before .before .before .before .args .all) _ (c .before .before .before .loop .j) (c .before .before .before .loop .inv .1) (omega (arith, (c .before .before .before .loop .inv .0))) _ (c .before .clause-word .ensures) (c .if1 .left))
 
 returns-2 : tie.Need-returns-2 Inv-loop μ-loop
-returns-2 c = sym ((c .before .loop .inv .1) ∙ every-end (clauseHolds (c .before .before .before .args .words) (c .before .before .before .args .ids) (c .before .before .before .args .all)) (memberClauses (c .before .before .before .args .code) (c .before .before .before .args .k)) (c .before .loop .j) (omega (arith, (c .before .loop .inv .0))))
+returns-2 c = sym ((c .before .loop .inv .1) ∙ every-end (clauseHolds (c .before .before .before .args .words .now) (c .before .before .before .args .ids .now) (c .before .before .before .args .all)) (memberClauses (c .before .before .before .args .code) (c .before .before .before .args .k)) (c .before .loop .j) (omega (arith, (c .before .loop .inv .0))))
 
 pub constraint-holds-spec : {M : Type 1} → statement M
 constraint-holds-spec =

@@ -23,10 +23,10 @@ set-of-requires-2 : tie.Need-set-of-requires-2
 set-of-requires-2 c κs = search needs
 
 returns : tie.Need-returns
-returns c = literal-positive (c .before .before .before .before .before .args .words) (c .before .before .before .before .before .args .ids) (c .before .before .before .before .before .args .all) _ _ _ _ (c .before .before .before .l .given .1) (c .before .member .ensures) (c .set-of .ensures)
+returns c = literal-positive (c .before .before .before .before .before .args .words .now) (c .before .before .before .before .before .args .ids .now) (c .before .before .before .before .before .args .all) _ _ _ _ (c .before .before .before .l .given .1) (c .before .member .ensures) (c .set-of .ensures)
 
 returns-2 : tie.Need-returns-2
-returns-2 c = literal-negative (c .before .before .before .before .before .args .words) (c .before .before .before .before .before .args .ids) (c .before .before .before .before .before .args .all) _ _ _ _ (c .before .before .before .l2 .given .1) (c .before .member2 .ensures) (c .set-of2 .ensures)
+returns-2 c = literal-negative (c .before .before .before .before .before .args .words .now) (c .before .before .before .before .before .args .ids .now) (c .before .before .before .before .before .args .all) _ _ _ _ (c .before .before .before .l2 .given .1) (c .before .member2 .ensures) (c .set-of2 .ensures)
 
 pub literal-word-spec : {M : Type 1} → statement M
 literal-word-spec =

@@ -5,11 +5,11 @@ use borrow.Author.Needs.{needs}
 use Rattle.constraint_clauses.proofs.set_of.Statement.{statement}
 use Rattle.constraint_clauses.proofs.set_of.Tie as tie
 
-array-read-result : tie.Need-array-read-result
-array-read-result c = search needs
+element-copy-out-result : tie.Need-element-copy-out-result
+element-copy-out-result c = search needs
 
 returns : tie.Need-returns
-returns c = set-none _ _ (c .if1 .taken)
+returns c = set-none _ _ (c .before .if1 .taken)
 
 cast-at : tie.Need-cast-at
 cast-at c = search needs
@@ -17,16 +17,27 @@ cast-at c = search needs
 mul-result : tie.Need-mul-result
 mul-result c = search needs
 
-array-read-result-2 : tie.Need-array-read-result-2
-array-read-result-2 c = search needs
+element-copy-out-result-2 : tie.Need-element-copy-out-result-2
+element-copy-out-result-2 c = search needs
 
 returns-2 : tie.Need-returns-2
 returns-2 c = set-at _ _
 
+words-sized-requires : tie.Need-words-sized-requires
+words-sized-requires c κs = search needs
+
 returns-3 : tie.Need-returns-3
-returns-3 c = set-past _ _ (omega (arith, (c .before .before .good)))
+returns-3 c = set-past _ _ (omega (arith, c .words-sized .ensures))
 
 pub set-of-spec : {M : Type 1} → statement M
 set-of-spec =
     tie.close
-    (tie.spec array-read-result returns cast-at mul-result array-read-result-2 returns-2 returns-3)
+    (tie.spec
+    element-copy-out-result
+    returns
+    cast-at
+    mul-result
+    element-copy-out-result-2
+    returns-2
+    words-sized-requires
+    returns-3)

@@ -27,11 +27,11 @@ same-length c = search needs
 
 returns-2 : tie.Need-returns-2
 returns-2 c =
-    let a = c .before .before .before .before .before .before .before .before .before .before .before .before .args in
-    let e = c .before .before .before .before .before .before .before .before .settled .ensures in
-    let z = c .before .before .before .before .before .before .if1 .left in
-    let m = c .before .before .before .before .before .before .before .before .settled .result .model in
-    let d = c .before .before .before .before .sets-from .ensures in
+    let a = c .before .before .before .before .before .before .before .before .before .before .before .before .before .args in
+    let e = c .before .before .before .before .before .before .before .before .before .settled .ensures in
+    let z = c .before .before .before .before .before .before .before .if1 .left in
+    let m = c .before .before .before .before .before .before .before .before .before .settled .result .model in
+    let d = c .before .before .before .before .before .sets-from .ensures in
     let f = c .before .before .fill .ensures in (
       f .0 ∙ ap (λ (x : List ℕ). fillRefusal m x (a .values .now)) d ∙ filling-judged _ _ e z _ _,
       f .1 .0 ∙ ap (λ (x : List ℕ). filledValues m x (a .values .now)) d ∙ values-filled _ _ e z _ _,

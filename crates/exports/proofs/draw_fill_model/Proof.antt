@@ -22,9 +22,9 @@ same-length c = search needs
 
 returns : tie.Need-returns
 returns c =
-    let values = c .before .before .before .before .before .before .before .before .before .args .values .now in
-    let m = c .before .before .before .before .before .model-from .ensures in
-    let d = c .before .before .before .before .sets-from .ensures in
+    let values = c .before .before .before .before .before .before .before .before .before .before .args .values .now in
+    let m = c .before .before .before .before .before .before .model-from .ensures in
+    let d = c .before .before .before .before .before .sets-from .ensures in
     let f = c .before .before .fill .ensures in (
       f .0 ∙ ap₂ (λ (x : Model) (y : List ℕ). fillRefusal x y values) m d,
       f .1 .0 ∙ ap₂ (λ (x : Model) (y : List ℕ). filledValues x y values) m d,

@@ -10,10 +10,10 @@ use Rattle.filling.proofs.groups_allowed.Statement.{statement}
 use Rattle.filling.proofs.groups_allowed.Tie as tie
 
 abbrev Inv-loop : tie.InvT-loop
-Inv-loop s groups words i₀ i = (i ≤ s) × Rest groups words s i
+Inv-loop words s groups i₀ i = (i ≤ s) × Rest groups words s i
 
 abbrev μ-loop : tie.MeasureT-loop
-μ-loop s groups words i₀ i = s - i
+μ-loop words s groups i₀ i = s - i
 
 loop-holds : tie.Need-loop-holds Inv-loop μ-loop
 loop-holds c = (omega arith, refl)
@@ -27,8 +27,8 @@ array-copy-out-g c = omega arith
 mul-allowed : tie.Need-mul-allowed Inv-loop μ-loop
 mul-allowed c = omega arith
 
-array-read-allowed : tie.Need-array-read-allowed Inv-loop μ-loop
-array-read-allowed c = omega arith
+element-copy-out-allowed : tie.Need-element-copy-out-allowed Inv-loop μ-loop
+element-copy-out-allowed c = omega arith
 
 allowed-requires : tie.Need-allowed-requires Inv-loop μ-loop
 allowed-requires c κs = search needs
@@ -36,9 +36,9 @@ allowed-requires c κs = search needs
 returns : tie.Need-returns Inv-loop μ-loop
 unfolding zeroGroup
 returns c =
-    let a = c .before .before .before .before .before .args in
-    let i = c .before .before .before .before .loop .i in
-    rest-stops (a .t1) (a .t2) (a .s) i (c .before .before .before .before .loop .inv .1) (omega arith) (omega arith) (omega arith)
+    let a = c .before .before .before .before .before .before .args in
+    let i = c .before .before .before .before .before .loop .i in
+    rest-stops (a .t1) (a .words .now) (a .s) i (c .before .before .before .before .before .loop .inv .1) (omega arith) (omega arith) (omega arith)
     (sym (c .before .allowed .ensures) ∙ not-true _ (c .if1 .taken))
 
 add-i : tie.Need-add-i Inv-loop μ-loop
@@ -50,17 +50,17 @@ loop-less c = omega arith
 loop-again : tie.Need-loop-again Inv-loop μ-loop
 unfolding zeroGroup
 loop-again c =
-    let a = c .before .before .before .before .before .args in
-    let i = c .before .before .before .before .loop .i in (
+    let a = c .before .before .before .before .before .before .args in
+    let i = c .before .before .before .before .before .loop .i in (
       omega arith,
-      rest-goes (a .t1) (a .t2) (a .s) i (c .before .before .before .before .loop .inv .1) (omega arith) (omega arith) (omega arith)
+      rest-goes (a .t1) (a .words .now) (a .s) i (c .before .before .before .before .before .loop .inv .1) (omega arith) (omega arith) (omega arith)
           (sym (c .before .allowed .ensures) ∙ not-false _ (c .if1 .left)),
     )
 
 returns-2 : tie.Need-returns-2 Inv-loop μ-loop
 returns-2 c =
     let a = c .before .before .args in
-    rest-done (a .t1) (a .t2) (a .s) (c .before .loop .i) (c .before .loop .inv .1) (omega arith)
+    rest-done (a .t1) (a .words .now) (a .s) (c .before .loop .i) (c .before .loop .inv .1) (omega arith)
 
 pub groups-allowed-spec : {M : Type 1} → statement M
 groups-allowed-spec =
@@ -72,7 +72,7 @@ groups-allowed-spec =
     mul-g
     array-copy-out-g
     mul-allowed
-    array-read-allowed
+    element-copy-out-allowed
     allowed-requires
     returns
     add-i

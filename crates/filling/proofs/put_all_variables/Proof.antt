@@ -11,10 +11,10 @@ use Rattle.filling.proofs.put_all_variables.Statement.{statement}
 use Rattle.filling.proofs.put_all_variables.Tie as tie
 
 abbrev Inv-loop : tie.InvT-loop
-Inv-loop values₀ n s groups words k₀ i₀ values k i = Wrote (firstGroups (variableValues n) groups words i) 0 values₀ values k × (i ≤ s)
+Inv-loop values₀ words n s groups k₀ i₀ values k i = Wrote (firstGroups (variableValues n) groups words i) 0 values₀ values k × (i ≤ s)
 
 abbrev μ-loop : tie.MeasureT-loop
-μ-loop values₀ n s groups words k₀ i₀ values k i = s - i
+μ-loop values₀ words n s groups k₀ i₀ values k i = s - i
 
 loop-holds : tie.Need-loop-holds Inv-loop μ-loop
 unfolding valuesOf
@@ -29,16 +29,16 @@ array-copy-out-g c = omega arith
 mul-put-variables : tie.Need-mul-put-variables Inv-loop μ-loop
 mul-put-variables c = omega arith
 
-array-read-put-variables : tie.Need-array-read-put-variables Inv-loop μ-loop
-array-read-put-variables c = omega arith
+element-copy-out-put-variables : tie.Need-element-copy-out-put-variables Inv-loop μ-loop
+element-copy-out-put-variables c = omega arith
 
 put-variables-requires : tie.Need-put-variables-requires Inv-loop μ-loop
 unfolding zeroGroup
 put-variables-requires c κs =
-    let a = c .before .before .before .before .before in
-    let i = c .before .before .before .loop .i in
-    let w = c .before .before .before .loop .inv .0 in
-    (a .pre .0 .0, omega (arith, groups-room (variableValues (a .args .n)) (a .args .t2) (a .args .t3) i (a .args .s) (omega arith) (omega (arith, a .good)) (omega (arith, a .good)), a .pre .1, w .next, kept w))
+    let a = c .before .before .before .before .before .before in
+    let i = c .before .before .before .before .loop .i in
+    let w = c .before .before .before .before .loop .inv .0 in
+    (a .pre .0 .0, omega (arith, groups-room (variableValues (a .args .n)) (a .args .t2) (a .args .words .now) i (a .args .s) (omega arith) (omega (arith, a .good)) (omega (arith, a .good)), a .pre .1, w .next, kept w))
 
 add-i : tie.Need-add-i Inv-loop μ-loop
 add-i c = omega arith
@@ -49,10 +49,10 @@ loop-less c = omega arith
 loop-again : tie.Need-loop-again Inv-loop μ-loop
 unfolding zeroGroup
 loop-again c =
-    let a = c .before .before .before .before .before .before .before .before in
-    let i = c .before .before .before .before .before .before .loop .i in (
-      same-text (sym (groups-next (variableValues (a .args .n)) (a .args .t2) (a .args .t3) i (omega (arith, a .good)) (omega (arith, a .good))))
-          (then (c .before .before .before .before .before .before .loop .inv .0) (c .before .before .put-variables .ensures)),
+    let a = c .before .before .before .before .before .before .before .before .before in
+    let i = c .before .before .before .before .before .before .before .loop .i in (
+      same-text (sym (groups-next (variableValues (a .args .n)) (a .args .t2) (a .args .words .now) i (omega (arith, a .good)) (omega (arith, a .good))))
+          (then (c .before .before .before .before .before .before .before .loop .inv .0) (c .before .before .put-variables .ensures)),
       omega arith,
     )
 
@@ -63,7 +63,7 @@ returns : tie.Need-returns Inv-loop μ-loop
 returns c =
     let a = c .before .before .before .args in
     let all : c .before .loop .i ≡ a .s = omega (arith, c .before .loop .inv .1) in
-    same-text (ap (firstGroups (variableValues (a .n)) (a .t2) (a .t3)) all) (c .before .loop .inv .0)
+    same-text (ap (firstGroups (variableValues (a .n)) (a .t2) (a .words .now)) all) (c .before .loop .inv .0)
 
 pub put-all-variables-spec : {M : Type 1} → statement M
 put-all-variables-spec =
@@ -75,7 +75,7 @@ put-all-variables-spec =
     mul-g
     array-copy-out-g
     mul-put-variables
-    array-read-put-variables
+    element-copy-out-put-variables
     put-variables-requires
     add-i
     loop-less

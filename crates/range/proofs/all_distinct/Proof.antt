@@ -1,68 +1,25 @@
--- `all_distinct` tests the first k numbers. Invariant: the test of all is the test of those from i on. Assumes nothing.
-use Rattle.model.specs.Limits.{limits}
-use Prim.Native.Nat.{_≤_, _-_}
-use mathlib.Core.Path.{_≡_, refl, _∙_, sym}
-use lib.ListN.{drop, take}
-use Rattle.model.specs.Lists.{distinct}
-use Rattle.model.proofs.Loops.{distinct-goes, distinct-stops, distinct-done}
+-- `all_distinct` looks at no more numbers than there are. Assumes nothing.
+use mathlib.Core.Path.{sym, ap, _∙_}
 use native.Mathlib.Omega.{arith}
+use lib.Seq.{take-all}
+use Rattle.model.specs.Lists.{distinct}
+use Rattle.model.specs.Limits.{limits}
 use borrow.Author.Needs.{needs}
 use Rattle.range.proofs.all_distinct.Statement.{statement}
 use Rattle.range.proofs.all_distinct.Tie as tie
 
-abbrev Inv-loop : tie.InvT-loop
-Inv-loop k ids i₀ i = (i ≤ limits .members) × (distinct (take k ids) ≡ distinct (drop i (take k ids)))
+first-distinct-requires : tie.Need-first-distinct-requires
+first-distinct-requires c κs = search needs
 
-abbrev μ-loop : tie.MeasureT-loop
-μ-loop k ids i₀ i = limits .members - i
+returns : tie.Need-returns
+returns c = search needs
 
-loop-holds : tie.Need-loop-holds Inv-loop μ-loop
-loop-holds c = (omega arith, refl)
+first-distinct-requires-2 : tie.Need-first-distinct-requires-2
+first-distinct-requires-2 c κs = search needs
 
-returns : tie.Need-returns Inv-loop μ-loop
-returns c = distinct-done (c .before .before .before .args .t1) (c .before .before .before .args .k) (c .before .before .loop .i) ((c .before .before .loop .inv) .1) (omega arith)
-
-mul-x : tie.Need-mul-x Inv-loop μ-loop
-mul-x c = omega arith
-
-array-read-x : tie.Need-array-read-x Inv-loop μ-loop
-array-read-x c = omega arith
-
-add-stands : tie.Need-add-stands Inv-loop μ-loop
-add-stands c = omega arith
-
-stands-requires : tie.Need-stands-requires Inv-loop μ-loop
-stands-requires c κs = search needs
-
-returns-2 : tie.Need-returns-2 Inv-loop μ-loop
-returns-2 c = distinct-stops (c .before .before .before .before .before .args .t1) (c .before .before .before .before .before .args .k) (c .before .before .before .before .loop .i) ((c .before .before .before .before .loop .inv) .1) (omega (arith, (c .before .before .before .before .before .good .0))) (sym (c .before .stands .ensures) ∙ (c .if2 .taken))
-
-add-i : tie.Need-add-i Inv-loop μ-loop
-add-i c = omega arith
-
-loop-less : tie.Need-loop-less Inv-loop μ-loop
-loop-less c = omega arith
-
-loop-again : tie.Need-loop-again Inv-loop μ-loop
-loop-again c = (omega arith, distinct-goes (c .before .before .before .before .before .args .t1) (c .before .before .before .before .before .args .k) (c .before .before .before .before .loop .i) ((c .before .before .before .before .loop .inv) .1) (omega (arith, (c .before .before .before .before .before .good .0))) (sym (c .before .stands .ensures) ∙ (c .if2 .left)))
-
-returns-3 : tie.Need-returns-3 Inv-loop μ-loop
-returns-3 c = distinct-done (c .before .before .args .t1) (c .before .before .args .k) (c .before .loop .i) ((c .before .loop .inv) .1) (omega (arith, (c .before .before .good .0)))
+returns-2 : tie.Need-returns-2
+returns-2 c = c .first-distinct2 .ensures ∙ ap distinct (take-all (limits .members) (c .before .before .args .ids) (omega (arith, c .before .before .good .0)) ∙ sym (take-all (c .before .before .args .k) (c .before .before .args .ids) (omega (arith, c .before .before .good .0, c .before .if1 .left))))
 
 pub all-distinct-spec : {M : Type 1} → statement M
 all-distinct-spec =
-    tie.close
-    (tie.spec
-    Inv-loop
-    μ-loop
-    loop-holds
-    returns
-    mul-x
-    array-read-x
-    add-stands
-    stands-requires
-    returns-2
-    add-i
-    loop-less
-    loop-again
-    returns-3)
+    tie.close (tie.spec first-distinct-requires returns first-distinct-requires-2 returns-2)

@@ -12,6 +12,7 @@ use Rattle.model.specs.Model.{codeInRange}
 use Rattle.model.specs.Sheet.{valueAt, countFrom, groupCount, firstGroup, constraintFrom, constraintRefusal}
 use Rattle.model.proofs.Lists.{true-T}
 use Rattle.model.proofs.Codes.{member-bound}
+use Rattle.sheet.proofs.Laws.{first-is}
 use native.Mathlib.Omega.{arith}
 use borrow.Author.Tests.{not-true, not-false, eq-eqb, ne-eqb}
 use borrow.Author.Needs.{needs}
@@ -82,29 +83,32 @@ first-group-requires : tie.Need-first-group-requires
 first-group-requires c κs = search needs
 
 add-if3 : tie.Need-add-if3
-add-if3 c = let h = small (c .before .before .before .before .before .before .before .before .before .args .line .now) (c .before .before .before .before .before .value2 .result) (c .before .before .before .before .count-from .result) (c .before .before .before .before .before .value2 .ensures) (c .before .before .before .before .count-from .ensures) (c .before .before .before .code-in-range .result) (c .before .before .before .code-in-range .ensures) (not-false (c .before .before .before .code-in-range .result) (c .before .before .if2 .left)) in omega (arith, first-le (c .before .before .before .before .before .before .before .before .before .args .line .now), (c .first-group .ensures), (c .before .group-count .ensures))
+add-if3 c = let h = small (c .before .before .before .before .before .before .before .before .before .args .line .now) (c .before .before .before .before .before .value2 .result) (c .before .before .before .before .count-from .result) (c .before .before .before .before .before .value2 .ensures) (c .before .before .before .before .count-from .ensures) (c .before .before .before .code-in-range .result) (c .before .before .before .code-in-range .ensures) (not-false (c .before .before .before .code-in-range .result) (c .before .before .if2 .left)) in omega (arith, first-le (c .before .before .before .before .before .before .before .before .before .args .line .now), (first-is _ _ _ (c .before .before .before .before .before .value2 .ensures) (c .first-group .ensures)), (c .before .group-count .ensures))
 
 returns-3 : tie.Need-returns-3
 unfolding constraintRefusal
-returns-3 c = simp (← (c .before .before .before .before .before .before .before .before .value .ensures), eq-eqb _ _ (c .before .before .before .before .before .before .before .if1 .left), ← (c .before .before .before .before .before .before .value2 .ensures), ← (c .before .before .before .before .before .count-from .ensures), ← (c .before .before .before .before .code-in-range .ensures), not-false (c .before .before .before .before .code-in-range .result) (c .before .before .before .if2 .left), ← (c .before .before .group-count .ensures), ← (c .before .first-group .ensures), ne-eqb _ _ (c .if3 .taken))
+returns-3 c = simp (← (c .before .before .before .before .before .before .before .before .value .ensures), eq-eqb _ _ (c .before .before .before .before .before .before .before .if1 .left), ← (c .before .before .before .before .before .before .value2 .ensures), ← (c .before .before .before .before .before .count-from .ensures), ← (c .before .before .before .before .code-in-range .ensures), not-false (c .before .before .before .before .code-in-range .result) (c .before .before .before .if2 .left), ← (c .before .before .group-count .ensures), ← (first-is _ _ _ (c .before .before .before .before .before .before .value2 .ensures) (c .before .first-group .ensures)), ne-eqb _ _ (c .if3 .taken))
 
 read-numbers-requires : tie.Need-read-numbers-requires
-read-numbers-requires c κs = let h = small (c .before .before .before .before .before .before .before .before .before .before .args .line .now) (c .before .before .before .before .before .before .value2 .result) (c .before .before .before .before .before .count-from .result) (c .before .before .before .before .before .before .value2 .ensures) (c .before .before .before .before .before .count-from .ensures) (c .before .before .before .before .code-in-range .result) (c .before .before .before .before .code-in-range .ensures) (not-false (c .before .before .before .before .code-in-range .result) (c .before .before .before .if2 .left)) in (omega (arith, (c .before .before .group-count .ensures)), (c .before .before .group-count .ensures))
+read-numbers-requires c κs = let h = small (c .before .before .before .before .before .before .before .before .before .before .args .line .now) (c .before .before .before .before .before .before .value2 .result) (c .before .before .before .before .before .count-from .result) (c .before .before .before .before .before .before .value2 .ensures) (c .before .before .before .before .before .count-from .ensures) (c .before .before .before .before .code-in-range .result) (c .before .before .before .before .code-in-range .ensures) (not-false (c .before .before .before .before .code-in-range .result) (c .before .before .before .if2 .left)) in (
+  (omega (arith, (c .before .before .group-count .ensures)), (c .before .before .group-count .ensures), c .before .before .before .before .before .before .value2 .ensures),
+  (c .before .before .before .before .before .before .before .before .before .before .pre, sym (c .before .before .before .before .before .before .before .before .value .ensures) ∙ c .before .before .before .before .before .before .before .if1 .left, c .if3 .left ∙ ap₂ (λ (u v : ℕ). u + v) (first-is _ _ _ (c .before .before .before .before .before .before .value2 .ensures) (c .before .first-group .ensures)) (c .before .before .group-count .ensures)),
+)
 
 all-between-requires : tie.Need-all-between-requires
 all-between-requires c κs = search needs
 
 returns-4 : tie.Need-returns-4
-returns-4 c = seven (c .before .before .before .before .before .before .before .before .before .before .before .before .before .args .line .now) (c .before .before .before .before .before .before .before .before .before .value2 .result) (c .before .before .before .before .before .before .before .before .count-from .result) (c .before .before .before .before .before .before .before .before .before .value2 .ensures) (c .before .before .before .before .before .before .before .before .count-from .ensures) (c .before .before .before .before .before .before .before .code-in-range .result) (c .before .before .before .before .before .before .before .code-in-range .ensures) (not-false (c .before .before .before .before .before .before .before .code-in-range .result) (c .before .before .before .before .before .before .if2 .left)) (c .before .before .before .before .before .before .before .before .before .before .before .before .before .args .s) (c .before .before .before .before .before .before .before .before .before .before .before .value .result) (c .before .before .before .before .first-group .result) (c .before .before .before .before .before .group-count .result) (c .before .before .before .before .before .before .before .before .before .before .before .value .ensures) (c .before .before .before .before .before .before .before .before .before .before .if1 .left) (c .before .before .before .before .first-group .ensures) (c .before .before .before .before .before .group-count .ensures) (c .before .before .before .if3 .left) (c .before .before .read-numbers .result) (c .before .before .read-numbers .ensures) (c .before .all-between .result) (c .before .all-between .ensures) (not-true (c .before .all-between .result) (c .if4 .taken))
+returns-4 c = seven (c .before .before .before .before .before .before .before .before .before .before .before .before .before .args .line .now) (c .before .before .before .before .before .before .before .before .before .value2 .result) (c .before .before .before .before .before .before .before .before .count-from .result) (c .before .before .before .before .before .before .before .before .before .value2 .ensures) (c .before .before .before .before .before .before .before .before .count-from .ensures) (c .before .before .before .before .before .before .before .code-in-range .result) (c .before .before .before .before .before .before .before .code-in-range .ensures) (not-false (c .before .before .before .before .before .before .before .code-in-range .result) (c .before .before .before .before .before .before .if2 .left)) (c .before .before .before .before .before .before .before .before .before .before .before .before .before .args .s) (c .before .before .before .before .before .before .before .before .before .before .before .value .result) (c .before .before .before .before .first-group .result) (c .before .before .before .before .before .group-count .result) (c .before .before .before .before .before .before .before .before .before .before .before .value .ensures) (c .before .before .before .before .before .before .before .before .before .before .if1 .left) (first-is _ _ _ (c .before .before .before .before .before .before .before .before .before .value2 .ensures) (c .before .before .before .before .first-group .ensures)) (c .before .before .before .before .before .group-count .ensures) (c .before .before .before .if3 .left) (c .before .before .read-numbers .result) (c .before .before .read-numbers .ensures) (c .before .all-between .result) (c .before .all-between .ensures) (not-true (c .before .all-between .result) (c .if4 .taken))
 
 all-distinct-requires : tie.Need-all-distinct-requires
 all-distinct-requires c κs = search needs
 
 returns-5 : tie.Need-returns-5
-returns-5 c = nine (c .before .before .before .before .before .before .before .before .before .before .before .before .before .before .before .args .line .now) (c .before .before .before .before .before .before .before .before .before .before .before .value2 .result) (c .before .before .before .before .before .before .before .before .before .before .count-from .result) (c .before .before .before .before .before .before .before .before .before .before .before .value2 .ensures) (c .before .before .before .before .before .before .before .before .before .before .count-from .ensures) (c .before .before .before .before .before .before .before .before .before .code-in-range .result) (c .before .before .before .before .before .before .before .before .before .code-in-range .ensures) (not-false (c .before .before .before .before .before .before .before .before .before .code-in-range .result) (c .before .before .before .before .before .before .before .before .if2 .left)) (c .before .before .before .before .before .before .before .before .before .before .before .before .before .before .before .args .s) (c .before .before .before .before .before .before .before .before .before .before .before .before .before .value .result) (c .before .before .before .before .before .before .first-group .result) (c .before .before .before .before .before .before .before .group-count .result) (c .before .before .before .before .before .before .before .before .before .before .before .before .before .value .ensures) (c .before .before .before .before .before .before .before .before .before .before .before .before .if1 .left) (c .before .before .before .before .before .before .first-group .ensures) (c .before .before .before .before .before .before .before .group-count .ensures) (c .before .before .before .before .before .if3 .left) (c .before .before .before .before .read-numbers .result) (c .before .before .before .before .read-numbers .ensures) (c .before .before .before .all-between .result) (c .before .before .before .all-between .ensures) (not-false (c .before .before .before .all-between .result) (c .before .before .if4 .left)) (c .before .all-distinct .result) (c .before .all-distinct .ensures) (not-true (c .before .all-distinct .result) (c .if5 .taken))
+returns-5 c = nine (c .before .before .before .before .before .before .before .before .before .before .before .before .before .before .before .args .line .now) (c .before .before .before .before .before .before .before .before .before .before .before .value2 .result) (c .before .before .before .before .before .before .before .before .before .before .count-from .result) (c .before .before .before .before .before .before .before .before .before .before .before .value2 .ensures) (c .before .before .before .before .before .before .before .before .before .before .count-from .ensures) (c .before .before .before .before .before .before .before .before .before .code-in-range .result) (c .before .before .before .before .before .before .before .before .before .code-in-range .ensures) (not-false (c .before .before .before .before .before .before .before .before .before .code-in-range .result) (c .before .before .before .before .before .before .before .before .if2 .left)) (c .before .before .before .before .before .before .before .before .before .before .before .before .before .before .before .args .s) (c .before .before .before .before .before .before .before .before .before .before .before .before .before .value .result) (c .before .before .before .before .before .before .first-group .result) (c .before .before .before .before .before .before .before .group-count .result) (c .before .before .before .before .before .before .before .before .before .before .before .before .before .value .ensures) (c .before .before .before .before .before .before .before .before .before .before .before .before .if1 .left) (first-is _ _ _ (c .before .before .before .before .before .before .before .before .before .before .before .value2 .ensures) (c .before .before .before .before .before .before .first-group .ensures)) (c .before .before .before .before .before .before .before .group-count .ensures) (c .before .before .before .before .before .if3 .left) (c .before .before .before .before .read-numbers .result) (c .before .before .before .before .read-numbers .ensures) (c .before .before .before .all-between .result) (c .before .before .before .all-between .ensures) (not-false (c .before .before .before .all-between .result) (c .before .before .if4 .left)) (c .before .all-distinct .result) (c .before .all-distinct .ensures) (not-true (c .before .all-distinct .result) (c .if5 .taken))
 
 returns-6 : tie.Need-returns-6
-returns-6 c = none (c .before .before .before .before .before .before .before .before .before .before .before .before .before .before .before .args .line .now) (c .before .before .before .before .before .before .before .before .before .before .before .value2 .result) (c .before .before .before .before .before .before .before .before .before .before .count-from .result) (c .before .before .before .before .before .before .before .before .before .before .before .value2 .ensures) (c .before .before .before .before .before .before .before .before .before .before .count-from .ensures) (c .before .before .before .before .before .before .before .before .before .code-in-range .result) (c .before .before .before .before .before .before .before .before .before .code-in-range .ensures) (not-false (c .before .before .before .before .before .before .before .before .before .code-in-range .result) (c .before .before .before .before .before .before .before .before .if2 .left)) (c .before .before .before .before .before .before .before .before .before .before .before .before .before .before .before .args .s) (c .before .before .before .before .before .before .before .before .before .before .before .before .before .value .result) (c .before .before .before .before .before .before .first-group .result) (c .before .before .before .before .before .before .before .group-count .result) (c .before .before .before .before .before .before .before .before .before .before .before .before .before .value .ensures) (c .before .before .before .before .before .before .before .before .before .before .before .before .if1 .left) (c .before .before .before .before .before .before .first-group .ensures) (c .before .before .before .before .before .before .before .group-count .ensures) (c .before .before .before .before .before .if3 .left) (c .before .before .before .before .read-numbers .result) (c .before .before .before .before .read-numbers .ensures) (c .before .before .before .all-between .result) (c .before .before .before .all-between .ensures) (not-false (c .before .before .before .all-between .result) (c .before .before .if4 .left)) (c .before .all-distinct .result) (c .before .all-distinct .ensures) (not-false (c .before .all-distinct .result) (c .if5 .left))
+returns-6 c = none (c .before .before .before .before .before .before .before .before .before .before .before .before .before .before .before .args .line .now) (c .before .before .before .before .before .before .before .before .before .before .before .value2 .result) (c .before .before .before .before .before .before .before .before .before .before .count-from .result) (c .before .before .before .before .before .before .before .before .before .before .before .value2 .ensures) (c .before .before .before .before .before .before .before .before .before .before .count-from .ensures) (c .before .before .before .before .before .before .before .before .before .code-in-range .result) (c .before .before .before .before .before .before .before .before .before .code-in-range .ensures) (not-false (c .before .before .before .before .before .before .before .before .before .code-in-range .result) (c .before .before .before .before .before .before .before .before .if2 .left)) (c .before .before .before .before .before .before .before .before .before .before .before .before .before .before .before .args .s) (c .before .before .before .before .before .before .before .before .before .before .before .before .before .value .result) (c .before .before .before .before .before .before .first-group .result) (c .before .before .before .before .before .before .before .group-count .result) (c .before .before .before .before .before .before .before .before .before .before .before .before .before .value .ensures) (c .before .before .before .before .before .before .before .before .before .before .before .before .if1 .left) (first-is _ _ _ (c .before .before .before .before .before .before .before .before .before .before .before .value2 .ensures) (c .before .before .before .before .before .before .first-group .ensures)) (c .before .before .before .before .before .before .before .group-count .ensures) (c .before .before .before .before .before .if3 .left) (c .before .before .before .before .read-numbers .result) (c .before .before .before .before .read-numbers .ensures) (c .before .before .before .all-between .result) (c .before .before .before .all-between .ensures) (not-false (c .before .before .before .all-between .result) (c .before .before .if4 .left)) (c .before .all-distinct .result) (c .before .all-distinct .ensures) (not-false (c .before .all-distinct .result) (c .if5 .left))
 
 pub constraint-refusal-spec : {M : Type 1} → statement M
 constraint-refusal-spec =

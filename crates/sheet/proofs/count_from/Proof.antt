@@ -8,16 +8,13 @@ use Rattle.sheet.proofs.count_from.Tie as tie
 value-requires : tie.Need-value-requires
 value-requires c κs = search needs
 
-value-requires-2 : tie.Need-value-requires-2
-value-requires-2 c κs = search needs
-
 returns : tie.Need-returns
 unfolding countFrom
-returns c = simp (← (c .before .before .value .ensures), eq-eqb _ _ (c .before .if1 .taken)) (c .value2 .ensures)
+returns c = simp (← (c .before .before .before .pre), eq-eqb _ _ (c .before .if1 .taken)) (c .value .ensures)
 
 returns-2 : tie.Need-returns-2
 unfolding countFrom
-returns-2 c = simp (← (c .before .value .ensures), ne-eqb _ _ (c .if1 .left))
+returns-2 c = simp (← (c .before .before .pre), ne-eqb _ _ (c .if1 .left))
 
 pub count-from-spec : {M : Type 1} → statement M
-count-from-spec = tie.close (tie.spec value-requires value-requires-2 returns returns-2)
+count-from-spec = tie.close (tie.spec value-requires returns returns-2)

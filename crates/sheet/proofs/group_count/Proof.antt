@@ -6,9 +6,6 @@ use borrow.Author.Needs.{needs}
 use Rattle.sheet.proofs.group_count.Statement.{statement}
 use Rattle.sheet.proofs.group_count.Tie as tie
 
-value-requires : tie.Need-value-requires
-value-requires c κs = search needs
-
 count-from-requires : tie.Need-count-from-requires
 count-from-requires c κs = search needs
 
@@ -17,8 +14,7 @@ member-count-requires c κs = search needs
 
 returns : tie.Need-returns
 unfolding groupCount
-returns c = (c .member-count .ensures) ∙ ap₂ memberCount (c .before .before .value .ensures) (c .before .count-from .ensures)
+returns c = (c .member-count .ensures) ∙ ap₂ memberCount (c .before .before .before .pre) (c .before .count-from .ensures)
 
 pub group-count-spec : {M : Type 1} → statement M
-group-count-spec =
-    tie.close (tie.spec value-requires count-from-requires member-count-requires returns)
+group-count-spec = tie.close (tie.spec count-from-requires member-count-requires returns)

@@ -2,10 +2,12 @@
 use Prim.Native.Nat.{_≤_, _-_}
 use mathlib.Core.Path.{_≡_, _∙_, sym}
 use mathlib.Core.Bool.{not}
-use lib.Dec.{eqb}
+use lib.Dec.{eqb, leb→le}
 use Rattle.model.specs.Words.{wordWhere}
 use Rattle.model.specs.Sheet.{markAt, groupFrom}
+use Rattle.model.proofs.Lists.{every-range, true-T}
 use Rattle.model.proofs.Words.{where-lt}
+use Rattle.sheet.specs.Line.{goodMark}
 use Rattle.sheet.proofs.Laws.{word-more}
 use native.Mathlib.Omega.{arith}
 use borrow.Author.Needs.{needs}
@@ -23,7 +25,12 @@ unfolding wordWhere
 loop-holds c = search needs
 
 mark-requires : tie.Need-mark-requires Inv-loop μ-loop
-mark-requires c κs = search needs
+mark-requires c κs =
+    let a = c .before .before .before in
+    let g = a .pre .1 in
+    let l = a .args .line .now in
+    let e = c .before .loop .e in
+    (g .0, g .1, omega (arith, g .2), leb→le (markAt l e) 2 (every-range (goodMark l) 0 (a .args .n) (true-T _ (a .pre .2)) e (omega arith) (omega arith)))
 
 with-bit-requires : tie.Need-with-bit-requires Inv-loop μ-loop
 with-bit-requires c κs = (omega arith, rw ((c .before .before .loop .inv) .1) (where-lt _ _))

@@ -8,7 +8,8 @@ use lib.ListN.{replicate, set}
 use lib.Dec.{eqb}
 use Rattle.model.specs.Lists.{range}
 use Rattle.model.specs.Sheet.{valueAt, firstGroup, groupCount, constraintFrom}
-use Rattle.sheet.proofs.Laws.{store-next}
+use Rattle.sheet.proofs.Laws.{store-next, first-is}
+use Rattle.sheet.proofs.Fields.{number-good}
 use native.Mathlib.Omega.{arith}
 use borrow.Author.Needs.{needs}
 use Rattle.sheet.proofs.read_numbers.Statement.{statement}
@@ -34,10 +35,10 @@ done : (line : List ℕ) (k i : ℕ) (groups : List ℕ) → i ≡ k → k ≡ g
 done line k i groups hi hk e = e ∙ rw (hi ∙ hk)
 
 abbrev Inv-loop : tie.InvT-loop
-Inv-loop line k a groups₀ i₀ groups i = (i ≤ k) × (groups ≡ map (λ j. valueAt line (firstGroup line + j)) (range 0 i) ++ replicate (limits .members - i) 0)
+Inv-loop line code k a groups₀ i₀ groups i = (i ≤ k) × (groups ≡ map (λ j. valueAt line (firstGroup line + j)) (range 0 i) ++ replicate (limits .members - i) 0)
 
 abbrev μ-loop : tie.MeasureT-loop
-μ-loop line k a groups₀ i₀ groups i = k - i
+μ-loop line code k a groups₀ i₀ groups i = k - i
 
 first-group-requires : tie.Need-first-group-requires Inv-loop μ-loop
 first-group-requires c κs = search needs
@@ -45,11 +46,15 @@ first-group-requires c κs = search needs
 loop-holds : tie.Need-loop-holds Inv-loop μ-loop
 loop-holds c = (omega arith, refl)
 
-add-value : tie.Need-add-value Inv-loop μ-loop
-add-value c = omega (arith, (c .before .before .first-group .ensures), first-le (c .before .before .before .before .args .line .now), (c .before .before .before .before .pre) .0)
+add-plain : tie.Need-add-plain Inv-loop μ-loop
+add-plain c =
+    let a = c .before .before .before .before in
+    omega (arith, first-is (a .args .line .now) _ _ (a .pre .0 .2) (c .before .before .first-group .ensures), first-le (a .args .line .now), a .pre .0 .0)
 
-value-requires : tie.Need-value-requires Inv-loop μ-loop
-value-requires c κs = search needs
+plain-requires : tie.Need-plain-requires Inv-loop μ-loop
+plain-requires c κs =
+    let a = c .before .before .before .before in
+    omega (arith, first-is (a .args .line .now) _ _ (a .pre .0 .2) (c .before .before .first-group .ensures), a .pre .0 .1, a .pre .1 .2)
 
 mul-groups : tie.Need-mul-groups Inv-loop μ-loop
 mul-groups c = search needs
@@ -64,11 +69,16 @@ loop-less : tie.Need-loop-less Inv-loop μ-loop
 loop-less c = search needs
 
 loop-again : tie.Need-loop-again Inv-loop μ-loop
-loop-again c = (omega arith, stored (c .before .before .before .before .before .args .line .now) (c .before .before .before .before .before .args .k) (c .before .before .before .first-group .result) (c .before .before .loop .i) (c .value .result) (c .before .before .loop .groups) ((c .before .before .before .before .before .pre) .0) (c .before .loop-test .taken) (c .before .before .before .first-group .ensures) ((c .before .before .loop .inv) .1) (c .value .ensures))
+loop-again c =
+    let a = c .before .before .before .before .before in
+    let i = c .before .before .loop .i in
+    let f = first-is (a .args .line .now) _ _ (a .pre .0 .2) (c .before .before .before .first-group .ensures) in
+    let v = c .plain .ensures ∙ number-good (a .args .line .now) (a .pre .1) _ (omega (arith, f, a .pre .0 .1)) in
+    (omega arith, stored (c .before .before .before .before .before .args .line .now) (c .before .before .before .before .before .args .k) (c .before .before .before .first-group .result) (c .before .before .loop .i) (c .plain .result) (c .before .before .loop .groups) (c .before .before .before .before .before .pre .0 .0) (c .before .loop-test .taken) f ((c .before .before .loop .inv) .1) v)
 
 returns : tie.Need-returns Inv-loop μ-loop
 unfolding constraintFrom
-returns c = done (c .before .before .before .before .args .line .now) (c .before .before .before .before .args .k) (c .before .loop .i) (c .before .loop .groups) (omega arith) ((c .before .before .before .before .pre) .1) ((c .before .loop .inv) .1)
+returns c = done (c .before .before .before .before .args .line .now) (c .before .before .before .before .args .k) (c .before .loop .i) (c .before .loop .groups) (omega arith) (c .before .before .before .before .pre .0 .1) ((c .before .loop .inv) .1)
 
 pub read-numbers-spec : {M : Type 1} → statement M
 read-numbers-spec =
@@ -78,8 +88,8 @@ read-numbers-spec =
     μ-loop
     first-group-requires
     loop-holds
-    add-value
-    value-requires
+    add-plain
+    plain-requires
     mul-groups
     array-write-groups
     add-i

@@ -4,7 +4,7 @@ use mathlib.Core.Path.{_∙_, sym}
 use mathlib.Core.Logic.{⊎-elim}
 use lib.ListN.{length}
 use Rattle.model.specs.Sheet.{readSheet, afterLast}
-use Rattle.sheet.proofs.Reading.{Halfway, at-start, constraint-place, constraint-small, at-end, part-fits, part-length, part-stops, part-goes, head-made, group-made, constraint-made}
+use Rattle.sheet.proofs.Reading.{Halfway, at-start, constraint-place, constraint-small, constraint-line, group-line, at-end, part-fits, part-length, part-stops, part-goes, head-made, group-made, constraint-made}
 use native.Mathlib.Omega.{arith}
 use borrow.Author.Needs.{needs}
 use borrow.Author.Tests.{lt-ltb, le-ltb, le-leb, lt-leb, eq-eqb, ne-eqb}
@@ -89,7 +89,10 @@ value-requires-3 : tie.Need-value-requires-3 Inv-loop μ-loop
 value-requires-3 c κs = search needs
 
 read-group-requires : tie.Need-read-group-requires Inv-loop μ-loop
-read-group-requires c κs = (c .before .before .before .before .before .before .before .before .loop .inv) .entrants
+read-group-requires c κs =
+    let l = c .before .before .before .before .before .before .before .before .loop in
+    let g = group-line _ _ _ _ (l .done) (sym (c .before .before .before .line-refusal .ensures) ∙ (c .before .before .if4 .left)) (c .before .if5 .left) (c .if6 .taken) in
+    (l .inv .entrants, g .0, g .1)
 
 sub-i : tie.Need-sub-i Inv-loop μ-loop
 sub-i c = search needs
@@ -104,7 +107,10 @@ element-set-from-g : tie.Need-element-set-from-g Inv-loop μ-loop
 element-set-from-g c = omega (arith, (c .before .before .before .before .before .before .before .before .before .loop .inv) .groups, (c .before .if6 .taken), (c .before .before .if5 .left))
 
 read-constraint-requires : tie.Need-read-constraint-requires Inv-loop μ-loop
-read-constraint-requires c κs = constraint-small _ _ _ _ (c .before .before .before .before .before .before .before .before .loop .done) (sym (c .before .before .before .line-refusal .ensures) ∙ (c .before .before .if4 .left)) (c .before .if5 .left) (c .if6 .left)
+read-constraint-requires c κs =
+    let done = c .before .before .before .before .before .before .before .before .loop .done in
+    let e = sym (c .before .before .before .line-refusal .ensures) ∙ (c .before .before .if4 .left) in
+    (constraint-small _ _ _ _ done e (c .before .if5 .left) (c .if6 .left), constraint-line _ _ _ _ done e (c .before .if5 .left) (c .if6 .left))
 
 sub-j : tie.Need-sub-j Inv-loop μ-loop
 sub-j c = omega (arith, (c .before .if6 .left))

@@ -16,8 +16,8 @@ groups-hold-requires c κs = search needs
 returns : tie.Need-returns
 unfolding clausesHold
 returns c =
-    let a = c .before .before .before .before .before .args in
-    let rest = every (constraintHoldsAt (assignmentOf (a .values .now)) (take (a .s) (a .groups)) (take (a .c) (a .constraints)) (a .words) (a .n)) (range 0 (a .c)) in
+    let a = c .before .before .before .before .before .before .before .args in
+    let rest = every (constraintHoldsAt (assignmentOf (a .values .now)) (take (a .s) (a .groups)) (take (a .c) (a .constraints)) (a .words .now) (a .n)) (range 0 (a .c)) in
     sym (ap (λ (b : Bool). b && rest) (sym (c .before .groups-hold .ensures) ∙ not-true _ (c .if1 .taken)))
 
 constraints-hold-requires : tie.Need-constraints-hold-requires
@@ -26,9 +26,9 @@ constraints-hold-requires c κs = search needs
 returns-2 : tie.Need-returns-2
 unfolding clausesHold
 returns-2 c =
-    let a = c .before .before .before .before .before .before .before .args in
-    let rest = every (constraintHoldsAt (assignmentOf (a .values .now)) (take (a .s) (a .groups)) (take (a .c) (a .constraints)) (a .words) (a .n)) (range 0 (a .c)) in
-    c .constraints-hold .ensures ∙ sym (ap (λ (b : Bool). b && rest) (sym (c .before .before .before .groups-hold .ensures) ∙ not-false _ (c .before .before .if1 .left)))
+    let a = c .before .before .before .before .before .before .before .before .before .before .args in
+    let rest = every (constraintHoldsAt (assignmentOf (a .values .now)) (take (a .s) (a .groups)) (take (a .c) (a .constraints)) (a .words .now) (a .n)) (range 0 (a .c)) in
+    c .constraints-hold .ensures ∙ sym (ap (λ (b : Bool). b && rest) (sym (c .before .before .before .before .groups-hold .ensures) ∙ not-false _ (c .before .before .before .if1 .left)))
 
 pub clauses-hold-spec : {M : Type 1} → statement M
 clauses-hold-spec =

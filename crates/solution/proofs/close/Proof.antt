@@ -61,19 +61,19 @@ whole-requires c κs = search needs
 
 words-requires : tie.Need-words-requires
 words-requires c κs =
-    let a = c .before .before .before .before .before .before .before .before .before .before .before .before .before .before .args in
-    let e = c .before .before .before .before .before .before .before .before .before .before .before .before .unsettled .ensures in
-    let z = c .before .before .before .before .before .before .before .before .before .before .before .if1 .left in (
+    let a = c .before .before .before .before .before .before .before .before .before .before .before .before .before .before .before .args in
+    let e = c .before .before .before .before .before .before .before .before .before .before .before .before .before .unsettled .ensures in
+    let z = c .before .before .before .before .before .before .before .before .before .before .before .before .if1 .left in (
       (few-entrants (a .m) (a .r) (a .values .now) _ e z, few-groups (a .m) (a .r) (a .values .now) _ e z),
-      first-is (a .m) _ (c .before .before .before .before .before .before .before .before .before .before .of-model .ensures),
+      first-is (a .m) _ (c .before .before .before .before .before .before .before .before .before .before .before .of-model .ensures),
     )
 
 clauses-hold-requires : tie.Need-clauses-hold-requires
 clauses-hold-requires c κs =
-    let a = c .before .before .before .before .before .before .before .before .before .before .before .before .before .before .before .args in
-    let e = c .before .before .before .before .before .before .before .before .before .before .before .before .before .unsettled .ensures in
-    let z = c .before .before .before .before .before .before .before .before .before .before .before .before .if1 .left in
-    let v = c .before .before .before .before .before .before .before .before .before .before .before .of-model .ensures in (
+    let a = c .before .before .before .before .before .before .before .before .before .before .before .before .before .before .before .before .before .args in
+    let e = c .before .before .before .before .before .before .before .before .before .before .before .before .before .before .before .unsettled .ensures in
+    let z = c .before .before .before .before .before .before .before .before .before .before .before .before .before .before .if1 .left in
+    let v = c .before .before .before .before .before .before .before .before .before .before .before .before .before .of-model .ensures in (
       (
         few-entrants (a .m) (a .r) (a .values .now) _ e z,
         few-groups (a .m) (a .r) (a .values .now) _ e z,
@@ -87,25 +87,25 @@ refused-requires-5 c κs = search needs
 
 returns-5 : tie.Need-returns-5
 returns-5 c =
-    let a = c .before .before .before .before .before .before .before .before .before .before .before .before .before .before .before .before .before .before .args in
+    let a = c .before .before .before .before .before .before .before .before .before .before .before .before .before .before .before .before .before .before .before .before .args in
     let values = a .values .now in
-    let e = c .before .before .before .before .before .before .before .before .before .before .before .before .before .before .before .before .unsettled .ensures in
-    let z = c .before .before .before .before .before .before .before .before .before .before .before .before .before .before .before .if1 .left in
-    let w = whole-of (a .m) (c .before .before .before .before .before .whole .ensures) in
-    let t = verdict-is (a .m) (assignmentOf values) (c .before .before .before .words .result) (c .before .before .before .words .ensures .1) _ e z w _ _ (c .before .before .clauses-hold .ensures) (not-true _ (c .before .if5 .taken)) in
-    close-28 (a .m) (a .r) values _ e z _ (variables-is (a .m) _ (c .before .before .before .before .before .before .before .before .before .before .before .before .before .before .of-model .ensures)) (omega arith) (not-false _ (c .before .before .before .before .before .before .before .before .before .before .if3 .left)) _ (c .before .before .before .before .before .before .before .before .before .all-said .ensures) (not-false _ (c .before .before .before .before .before .before .before .before .if4 .left)) _
+    let e = c .before .before .before .before .before .before .before .before .before .before .before .before .before .before .before .before .before .before .unsettled .ensures in
+    let z = c .before .before .before .before .before .before .before .before .before .before .before .before .before .before .before .before .before .if1 .left in
+    let w = whole-of (a .m) (c .before .before .before .before .before .before .before .whole .ensures) in
+    let t = verdict-is (a .m) (assignmentOf values) (c .before .before .before .before .words .result) (c .before .before .before .before .words .ensures .1) _ e z w _ _ (c .before .before .clauses-hold .ensures) (not-true _ (c .before .if5 .taken)) in
+    close-28 (a .m) (a .r) values _ e z _ (variables-is (a .m) _ (c .before .before .before .before .before .before .before .before .before .before .before .before .before .before .before .before .of-model .ensures)) (omega arith) (not-false _ (c .before .before .before .before .before .before .before .before .before .before .before .before .if3 .left)) _ (c .before .before .before .before .before .before .before .before .before .before .before .all-said .ensures) (not-false _ (c .before .before .before .before .before .before .before .before .before .before .if4 .left)) _
     (c .refused5 .ensures) t
 
 returns-6 : tie.Need-returns-6
 returns-6 c =
-    let a = c .before .before .before .before .before .before .before .before .before .before .before .before .before .before .before .before .before .args in
+    let a = c .before .before .before .before .before .before .before .before .before .before .before .before .before .before .before .before .before .before .before .args in
     let values = a .values .now in
-    let e = c .before .before .before .before .before .before .before .before .before .before .before .before .before .before .before .unsettled .ensures in
-    let z = c .before .before .before .before .before .before .before .before .before .before .before .before .before .before .if1 .left in
-    let w = whole-of (a .m) (c .before .before .before .before .whole .ensures) in
-    let t = verdict-is (a .m) (assignmentOf values) (c .before .before .words .result) (c .before .before .words .ensures .1) _ e z w _ _ (c .before .clauses-hold .ensures) (not-false _ (c .if5 .left)) in
-    close-0 (a .m) (a .r) values _ e z _ (variables-is (a .m) _ (c .before .before .before .before .before .before .before .before .before .before .before .before .before .of-model .ensures)) (omega arith) (not-false _ (c .before .before .before .before .before .before .before .before .before .if3 .left)) _ (c .before .before .before .before .before .before .before .before .all-said .ensures) (not-false _ (c .before .before .before .before .before .before .before .if4 .left)) _
-    (found-is (a .m) (assignmentOf values) (c .before .before .words .result) (c .before .before .words .ensures .1)) t
+    let e = c .before .before .before .before .before .before .before .before .before .before .before .before .before .before .before .before .before .unsettled .ensures in
+    let z = c .before .before .before .before .before .before .before .before .before .before .before .before .before .before .before .before .if1 .left in
+    let w = whole-of (a .m) (c .before .before .before .before .before .before .whole .ensures) in
+    let t = verdict-is (a .m) (assignmentOf values) (c .before .before .before .words .result) (c .before .before .before .words .ensures .1) _ e z w _ _ (c .before .clauses-hold .ensures) (not-false _ (c .if5 .left)) in
+    close-0 (a .m) (a .r) values _ e z _ (variables-is (a .m) _ (c .before .before .before .before .before .before .before .before .before .before .before .before .before .before .before .of-model .ensures)) (omega arith) (not-false _ (c .before .before .before .before .before .before .before .before .before .before .before .if3 .left)) _ (c .before .before .before .before .before .before .before .before .before .before .all-said .ensures) (not-false _ (c .before .before .before .before .before .before .before .before .before .if4 .left)) _
+    (found-is (a .m) (assignmentOf values) (c .before .before .before .words .result) (c .before .before .before .words .ensures .1)) t
 
 pub close-spec : {M : Type 1} → statement M
 close-spec =

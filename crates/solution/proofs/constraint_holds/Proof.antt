@@ -15,7 +15,7 @@ difference-holds-requires c κs = search needs
 returns : tie.Need-returns
 returns c =
     let a = c .before .before .before .before .args in
-    seven-holds (assignmentOf (a .values .now)) (take (a .s) (a .groups)) (a .words) (a .n) (a .x) (a .l) (c .before .if1 .taken) _ (c .difference-holds .ensures)
+    seven-holds (assignmentOf (a .values .now)) (take (a .s) (a .groups)) (a .words .now) (a .n) (a .x) (a .l) (c .before .if1 .taken) _ (c .difference-holds .ensures)
 
 entrants-requires : tie.Need-entrants-requires
 entrants-requires c κs = search needs
@@ -25,8 +25,8 @@ constraint-holds-requires c κs = search needs
 
 returns-2 : tie.Need-returns-2
 returns-2 c =
-    let a = c .before .before .before .before .before .before .args in
-    six-holds (assignmentOf (a .values .now)) (take (a .s) (a .groups)) (a .words) (a .n) (a .x) (a .l) (c .before .before .before .if1 .left) _ (c .before .entrants .ensures ∙ entrants-full (a .n) (omega arith)) _
+    let a = c .before .before .before .before .before .before .before .args in
+    six-holds (assignmentOf (a .values .now)) (take (a .s) (a .groups)) (a .words .now) (a .n) (a .x) (a .l) (c .before .before .before .before .if1 .left) _ (c .before .entrants .ensures ∙ entrants-full (a .n) (omega arith)) _
     (c .constraint-holds .ensures)
 
 pub constraint-holds-spec : {M : Type 1} → statement M

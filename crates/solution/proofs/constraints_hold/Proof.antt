@@ -15,17 +15,17 @@ use Rattle.solution.proofs.constraints_hold.Statement.{statement}
 use Rattle.solution.proofs.constraints_hold.Tie as tie
 
 abbrev Inv-loop : tie.InvT-loop
-Inv-loop values groups words n s c constraints differences j₀ j =
+Inv-loop values groups differences words n s c constraints j₀ j =
     let p = constraintHoldsAt (assignmentOf values) (take s groups) (take c constraints) words n in
     (j ≤ c) × (every p (range 0 c) ≡ every p (range j (c - j)))
 
 abbrev μ-loop : tie.MeasureT-loop
-μ-loop values groups words n s c constraints differences j₀ j = c - j
+μ-loop values groups differences words n s c constraints j₀ j = c - j
 
 loop-holds : tie.Need-loop-holds Inv-loop μ-loop
 loop-holds c =
     let a = c .before .args in
-    let p = constraintHoldsAt (assignmentOf (a .values .now)) (take (a .s) (a .groups)) (take (a .c) (a .t3)) (a .words) (a .n) in
+    let p = constraintHoldsAt (assignmentOf (a .values .now)) (take (a .s) (a .groups)) (take (a .c) (a .t3)) (a .words .now) (a .n) in
     (omega arith, sym (ap (λ (k : ℕ). every p (range 0 k)) (sub-zero (a .c))))
 
 mul-l : tie.Need-mul-l Inv-loop μ-loop
@@ -37,8 +37,8 @@ array-copy-out-l c = omega arith
 mul-wide : tie.Need-mul-wide Inv-loop μ-loop
 mul-wide c = omega arith
 
-array-read-wide : tie.Need-array-read-wide Inv-loop μ-loop
-array-read-wide c = omega arith
+element-copy-out-wide : tie.Need-element-copy-out-wide Inv-loop μ-loop
+element-copy-out-wide c = omega arith
 
 wide-requires : tie.Need-wide-requires Inv-loop μ-loop
 wide-requires c κs = search needs
@@ -48,13 +48,13 @@ constraint-holds-requires c κs = search needs
 
 returns : tie.Need-returns Inv-loop μ-loop
 returns c =
-    let a = c .before .before .before .before .before .before .before .args in
+    let a = c .before .before .before .before .before .before .before .before .args in
     let values = assignmentOf (a .values .now) in
     let t = take (a .s) (a .groups) in
-    let j = c .before .before .before .before .before .loop .j in
-    let p = constraintHoldsAt values t (take (a .c) (a .t3)) (a .words) (a .n) in
-    let e = constraint-holds-at values t (a .t3) (a .c) (a .words) (a .n) j (c .before .before .before .before .loop-test .taken) (a .t4) (omega arith) (c .before .before .before .before .before .before .before .pre .1) _ (c .before .before .wide .ensures .0) (omega (arith, c .before .before .before .before .before .before .before .good)) _ _ (c .before .constraint-holds .ensures) in
-    sym (range-stops p (every p (range 0 (a .c))) (a .c) j (c .before .before .before .before .before .loop .inv .1) (c .before .before .before .before .loop-test .taken) (sym e ∙ not-true _ (c .if1 .taken)))
+    let j = c .before .before .before .before .before .before .loop .j in
+    let p = constraintHoldsAt values t (take (a .c) (a .t3)) (a .words .now) (a .n) in
+    let e = constraint-holds-at values t (a .t3) (a .c) (a .words .now) (a .n) j (c .before .before .before .before .before .loop-test .taken) (a .differences .now) (omega arith) (c .before .before .before .before .before .before .before .before .pre .1) _ (c .before .before .wide .ensures .0) (omega (arith, c .before .before .before .before .before .before .before .before .good)) _ _ (c .before .constraint-holds .ensures) in
+    sym (range-stops p (every p (range 0 (a .c))) (a .c) j (c .before .before .before .before .before .before .loop .inv .1) (c .before .before .before .before .before .loop-test .taken) (sym e ∙ not-true _ (c .if1 .taken)))
 
 add-j : tie.Need-add-j Inv-loop μ-loop
 add-j c = omega arith
@@ -64,18 +64,18 @@ loop-less c = omega arith
 
 loop-again : tie.Need-loop-again Inv-loop μ-loop
 loop-again c =
-    let a = c .before .before .before .before .before .before .before .args in
+    let a = c .before .before .before .before .before .before .before .before .args in
     let values = assignmentOf (a .values .now) in
     let t = take (a .s) (a .groups) in
-    let j = c .before .before .before .before .before .loop .j in
-    let p = constraintHoldsAt values t (take (a .c) (a .t3)) (a .words) (a .n) in
-    let e = constraint-holds-at values t (a .t3) (a .c) (a .words) (a .n) j (c .before .before .before .before .loop-test .taken) (a .t4) (omega arith) (c .before .before .before .before .before .before .before .pre .1) _ (c .before .before .wide .ensures .0) (omega (arith, c .before .before .before .before .before .before .before .good)) _ _ (c .before .constraint-holds .ensures) in
-    (omega arith, range-goes p (every p (range 0 (a .c))) (a .c) j (c .before .before .before .before .before .loop .inv .1) (c .before .before .before .before .loop-test .taken) (sym e ∙ not-false _ (c .if1 .left)))
+    let j = c .before .before .before .before .before .before .loop .j in
+    let p = constraintHoldsAt values t (take (a .c) (a .t3)) (a .words .now) (a .n) in
+    let e = constraint-holds-at values t (a .t3) (a .c) (a .words .now) (a .n) j (c .before .before .before .before .before .loop-test .taken) (a .differences .now) (omega arith) (c .before .before .before .before .before .before .before .before .pre .1) _ (c .before .before .wide .ensures .0) (omega (arith, c .before .before .before .before .before .before .before .before .good)) _ _ (c .before .constraint-holds .ensures) in
+    (omega arith, range-goes p (every p (range 0 (a .c))) (a .c) j (c .before .before .before .before .before .before .loop .inv .1) (c .before .before .before .before .before .loop-test .taken) (sym e ∙ not-false _ (c .if1 .left)))
 
 returns-2 : tie.Need-returns-2 Inv-loop μ-loop
 returns-2 c =
     let a = c .before .before .before .args in
-    let p = constraintHoldsAt (assignmentOf (a .values .now)) (take (a .s) (a .groups)) (take (a .c) (a .t3)) (a .words) (a .n) in
+    let p = constraintHoldsAt (assignmentOf (a .values .now)) (take (a .s) (a .groups)) (take (a .c) (a .t3)) (a .words .now) (a .n) in
     sym (range-done p (every p (range 0 (a .c))) (a .c) (c .before .loop .j) (c .before .loop .inv .1) (omega arith))
 
 pub constraints-hold-spec : {M : Type 1} → statement M
@@ -88,7 +88,7 @@ constraints-hold-spec =
     mul-l
     array-copy-out-l
     mul-wide
-    array-read-wide
+    element-copy-out-wide
     wide-requires
     constraint-holds-requires
     returns

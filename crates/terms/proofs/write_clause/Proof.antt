@@ -1,13 +1,14 @@
 -- `write_clause` writes one term after the other, a 0 and a newline. Assumes nothing.
 use mathlib.Core.Path.{sym, ap}
-use Prim.Native.Nat.{_-_, _≤_}
+use Prim.Native.Nat.{_-_, _≤_, _<_}
 use native.Mathlib.Omega.{arith}
+use borrow.Author.Needs.{needs}
 use lib.ListN.{length, take, length-set}
 use Rattle.model.specs.declared.Term.{Term}
 use Rattle.model.specs.declared.Term.the-variants.{Fails}
 use Rattle.model.specs.Lists.{each}
 use Rattle.text.specs.Put.{Wrote, termText}
-use Rattle.text.proofs.Writes.{done, then, snoc, same-text, kept}
+use Rattle.text.proofs.Writes.{wrote, done, then, snoc, same-text, kept}
 use Rattle.terms.specs.Terms.{clauseTerms}
 use Rattle.text.proofs.Clauses.{terms-room, terms-next, terms-all}
 use Rattle.terms.proofs.Clauses.{clause-size}
@@ -27,19 +28,7 @@ clause-term-requires : tie.Need-clause-term-requires Inv-loop μ-loop
 clause-term-requires c κs = c .before .before .before .pre .0
 
 put-term-requires : tie.Need-put-term-requires Inv-loop μ-loop
-put-term-requires c κs =
-    let a = c .before .before .before .before .before .args in
-    let ts = clauseTerms (a .ns .now) (a .code) (a .count) (a .j) in
-    let l = c .before .before .before .loop in
-    omega (
-      arith,
-      ap (λ (t : Term). length (termText t)) (c .before .clause-term .ensures),
-      terms-room ts (l .i) (a .k) Fails (c .before .before .loop-test .taken) (omega (arith, clause-size (a .ns .now) (a .code) (a .count) (a .j) (c .before .before .before .before .before .pre .0), c .before .before .loop-test .taken)),
-      ap length (terms-all ts (a .k) (omega (arith, clause-size (a .ns .now) (a .code) (a .count) (a .j) (c .before .before .before .before .before .pre .0)))),
-      l .inv .1 .next,
-      kept (l .inv .1),
-      c .before .before .before .before .before .pre .1,
-    )
+put-term-requires c κs = search needs
 
 add-i : tie.Need-add-i Inv-loop μ-loop
 add-i c = omega arith
@@ -52,9 +41,20 @@ loop-again c =
     let a = c .before .before .before .before .before .before .before .before .args in
     let ts = clauseTerms (a .ns .now) (a .code) (a .count) (a .j) in
     let l = c .before .before .before .before .before .before .loop in
-    let next = terms-next ts (l .i) Fails (omega (arith, clause-size (a .ns .now) (a .code) (a .count) (a .j) (c .before .before .before .before .before .before .before .before .pre .0), c .before .before .before .before .before .loop-test .taken)) in (
+    let size = clause-size (a .ns .now) (a .code) (a .count) (a .j) (c .before .before .before .before .before .before .before .before .pre .0) in
+    let in-clause : l .i < length ts = omega (arith, size, c .before .before .before .before .before .loop-test .taken) in
+    let put = c .before .before .put-term .ensures in
+    let term = wrote (put .0) (put .1) (omega (
+      arith,
+      ap (λ (t : Term). length (termText t)) (c .before .before .before .before .clause-term .ensures),
+      terms-room ts (l .i) (a .k) Fails (c .before .before .before .before .before .loop-test .taken) in-clause,
+      ap length (terms-all ts (a .k) (omega (arith, size))),
+      l .inv .1 .next,
+      kept (l .inv .1),
+      c .before .before .before .before .before .before .before .before .pre .1,
+    )) in (
       omega arith,
-      same-text (sym next) (then (l .inv .1) (same-text (ap termText (c .before .before .before .before .clause-term .ensures)) (c .before .before .put-term .ensures))),
+      same-text (sym (terms-next ts (l .i) Fails in-clause)) (then (l .inv .1) (same-text (ap termText (c .before .before .before .before .clause-term .ensures)) term)),
     )
 
 slice-write-buf : tie.Need-slice-write-buf Inv-loop μ-loop

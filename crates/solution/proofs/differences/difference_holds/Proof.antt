@@ -12,7 +12,7 @@ is-apart-requires c κs = search needs
 returns : tie.Need-returns
 returns c =
     let a = c .before .before .before .args in
-    holds-apart (assignmentOf (a .values .now)) (take (a .s) (a .groups)) (a .words) (a .n) (a .x) (a .l) _ (c .before .is-apart .ensures) (c .if1 .taken)
+    holds-apart (assignmentOf (a .values .now)) (take (a .s) (a .groups)) (a .words .now) (a .n) (a .x) (a .l) _ (c .before .is-apart .ensures) (c .if1 .taken)
 
 word-of-difference-requires : tie.Need-word-of-difference-requires
 word-of-difference-requires c κs = search needs
@@ -32,13 +32,13 @@ set-of-requires-2 c κs = search needs
 returns-2 : tie.Need-returns-2
 returns-2 c =
     let a = c .before .before .before .before .before .before .before .before .args in
-    holds-none (assignmentOf (a .values .now)) (take (a .s) (a .groups)) (a .words) (a .n) (a .x) (a .l) _ (c .before .before .before .before .before .before .is-apart .ensures) (c .before .before .before .before .before .if1 .left) _ (c .before .before .before .before .word-of-difference .ensures)
+    holds-none (assignmentOf (a .values .now)) (take (a .s) (a .groups)) (a .words .now) (a .n) (a .x) (a .l) _ (c .before .before .before .before .before .before .is-apart .ensures) (c .before .before .before .before .before .if1 .left) _ (c .before .before .before .before .word-of-difference .ensures)
     (c .if2 .taken)
 
 returns-3 : tie.Need-returns-3
 returns-3 c =
     let a = c .before .before .before .before .before .before .before .before .args in
-    holds-some (assignmentOf (a .values .now)) (take (a .s) (a .groups)) (a .words) (a .n) (a .x) (a .l) _ (c .before .before .before .before .before .before .is-apart .ensures) (c .before .before .before .before .before .if1 .left) _ (c .before .before .before .before .word-of-difference .ensures)
+    holds-some (assignmentOf (a .values .now)) (take (a .s) (a .groups)) (a .words .now) (a .n) (a .x) (a .l) _ (c .before .before .before .before .before .before .is-apart .ensures) (c .before .before .before .before .before .if1 .left) _ (c .before .before .before .before .word-of-difference .ensures)
     (c .if2 .left) _ _ (c .before .before .set-of .ensures) (c .before .set-of2 .ensures)
 
 pub difference-holds-spec : {M : Type 1} → statement M

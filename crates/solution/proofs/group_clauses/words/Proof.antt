@@ -14,11 +14,11 @@ use Rattle.solution.proofs.group_clauses.words.Statement.{statement}
 use Rattle.solution.proofs.group_clauses.words.Tie as tie
 
 abbrev Inv-loop : tie.InvT-loop
-Inv-loop values n s groups first end r₀ i₀ r i =
+Inv-loop values first n s groups end r₀ i₀ r i =
     (i ≤ s) × (length r ≡ limits .groups) × (r ≡ tableWords n (assignmentOf values) (take s groups) i)
 
 abbrev μ-loop : tie.MeasureT-loop
-μ-loop values n s groups first end r₀ i₀ r i = s - i
+μ-loop values first n s groups end r₀ i₀ r i = s - i
 
 loop-holds : tie.Need-loop-holds Inv-loop μ-loop
 unfolding tableWords
@@ -33,8 +33,8 @@ array-copy-out-g c = omega arith
 mul-wide : tie.Need-mul-wide Inv-loop μ-loop
 mul-wide c = omega arith
 
-array-read-wide : tie.Need-array-read-wide Inv-loop μ-loop
-array-read-wide c = omega arith
+element-copy-out-wide : tie.Need-element-copy-out-wide Inv-loop μ-loop
+element-copy-out-wide c = omega arith
 
 wide-requires : tie.Need-wide-requires Inv-loop μ-loop
 wide-requires c κs = search needs
@@ -46,7 +46,7 @@ mul-r : tie.Need-mul-r Inv-loop μ-loop
 mul-r c = omega arith
 
 array-write-r : tie.Need-array-write-r Inv-loop μ-loop
-array-write-r c = omega (arith, c .before .before .before .before .loop .inv .1)
+array-write-r c = omega (arith, c .before .before .before .before .before .loop .inv .1)
 
 add-i : tie.Need-add-i Inv-loop μ-loop
 add-i c = omega arith
@@ -57,15 +57,15 @@ loop-less c = omega arith
 loop-again : tie.Need-loop-again Inv-loop μ-loop
 unfolding zeroGroup
 loop-again c =
-    let s = c .before .before .before .before .before .before .args in
-    let i = c .before .before .before .before .loop .i in
+    let s = c .before .before .before .before .before .before .before .args in
+    let i = c .before .before .before .before .before .loop .i in
     let a = assignmentOf (s .values .now) in
     let t = take (s .s) (s .t2) in
-    let v = c .before .wide .ensures .0 ∙ variable-from t (s .t3) i (omega arith) (c .before .before .before .before .before .before .pre .1) in
+    let v = c .before .wide .ensures .0 ∙ variable-from t (s .first .now) i (omega arith) (c .before .before .before .before .before .before .before .pre .1) in
     let x = word-at (s .n) a t i _ _ _ (group-is (s .t2) (s .s) i (omega arith)) v (c .word-of .ensures) in (
       omega arith,
-      simp length-set (c .before .before .before .before .loop .inv .1),
-      words-next (s .n) a t (c .before .before .before .before .loop .r) i _ (c .before .before .before .before .loop .inv .2) (omega arith) x,
+      simp length-set (c .before .before .before .before .before .loop .inv .1),
+      words-next (s .n) a t (c .before .before .before .before .before .loop .r) i _ (c .before .before .before .before .before .loop .inv .2) (omega arith) x,
     )
 
 returns : tie.Need-returns Inv-loop μ-loop
@@ -84,7 +84,7 @@ words-spec =
     mul-g
     array-copy-out-g
     mul-wide
-    array-read-wide
+    element-copy-out-wide
     wide-requires
     word-of-requires
     mul-r

@@ -1,0 +1,4 @@
+pub mod Places
+pub mod Outside
+pub mod Walks
+pub mod Clauses
