@@ -15,15 +15,10 @@ pub fn fill(encoding: &Encoding, groups: &[u64], marks: &mut [u8]) -> Result<(),
     Ok(())
 }
 
-/// The entrants of a group, none where it is missing.
-fn set(groups: &[u64], index: usize) -> u64 {
-    groups.get(index).copied().unwrap_or(0)
-}
-
-/// Whether groups are a draw: all with mark 2, none with mark 0, low to high in number, every line true.
+/// Whether there is a set for each group and they are a draw: all with mark 2, none with mark 0, low to high in number, every line true.
 pub fn is_draw(model: &Model, groups: &[u64]) -> bool {
-    let fits = |(index, group): (usize, &Group)| group.allows(set(groups, index));
-    model.groups.iter().enumerate().all(fits) && model.constraints.iter().all(|line| line.is_true(groups))
+    let fits = |(group, &set): (&Group, &u64)| group.allows(set);
+    groups.len() >= model.groups.len() && model.groups.iter().zip(groups).all(fits) && model.constraints.iter().all(|line| line.is_true(groups))
 }
 
 impl Group {
@@ -37,7 +32,7 @@ impl Group {
 impl Constraint {
     /// Whether the line is true of the groups, by its meaning.
     pub fn is_true(&self, groups: &[u64]) -> bool {
-        let of = |at: usize| set(groups, self.groups[at]);
+        let of = |at: usize| groups[self.groups[at]];
         match self.code {
             1 => of(0) == of(1),
             2 => of(0) & !of(1) == 0,
@@ -55,7 +50,7 @@ pub fn assignment(encoding: &Encoding, groups: &[u64]) -> Vec<u8> {
     let model = encoding.settled.model();
     for (index, group) in model.groups.iter().enumerate() {
         let open: Vec<u32> = (0..model.entrants).filter(|e| group.open() >> e & 1 == 1).collect();
-        for &entrant in open.iter().filter(|&e| set(groups, index) >> e & 1 == 1) {
+        for &entrant in open.iter().filter(|&e| groups[index] >> e & 1 == 1) {
             marks[encoding.variable(index, entrant) as usize - 1] = 1;
         }
         if let Some((mut next, size)) = encoding.counter_start(index) {
@@ -63,7 +58,7 @@ pub fn assignment(encoding: &Encoding, groups: &[u64]) -> Vec<u8> {
         }
     }
     for (index, line) in model.constraints.iter().enumerate().filter(|(_, line)| line.code == 7) {
-        let (f, g) = (set(groups, line.groups[0]), set(groups, line.groups[1]));
+        let (f, g) = (groups[line.groups[0]], groups[line.groups[1]]);
         for (entrant, x) in encoding.each_x(index) {
             marks[x as usize - 1] = if (f ^ g) >> entrant & 1 == 1 { 1 } else { 2 };
         }
@@ -166,11 +161,12 @@ mod tests {
     }
 
     #[test]
-    fn missing_words_are_empty_groups_and_those_past_s_are_ignored() {
+    fn missing_words_are_no_draw_and_those_past_s_are_ignored() {
         assert_eq!(filled(A, &[1, 1, u64::MAX, 4], 8), filled(A, &[1, 1], 8));
         is_refused(A, &[1], 8, 30);
         is_refused(A, &[], 8, 30);
-        assert_eq!(filled(D_WITHOUT_LIMITS, &[], 1), (Ok(()), vec![2]));
+        assert_eq!(filled(D_WITHOUT_LIMITS, &[0], 1), (Ok(()), vec![2]));
+        is_refused(D_WITHOUT_LIMITS, &[], 1, 30);
     }
 
     #[test]

@@ -9,6 +9,7 @@ extern "C" {
     fn draw_block_count(sheet: *const u8, sheet_len: usize) -> u64;
     fn draw_line(closed: u32, line: *const u8, line_len: usize, marks: *mut u8, marks_len: usize) -> u32;
     fn draw_close(sheet: *const u8, sheet_len: usize, closed: u32, marks: *const u8, marks_len: usize, groups: *mut u64, groups_len: usize) -> u32;
+    fn draw_answer(sheet: *const u8, sheet_len: usize, output: *const u8, output_len: usize, groups: *mut u64, groups_len: usize) -> u64;
     fn draw_fill(sheet: *const u8, sheet_len: usize, groups: *const u64, groups_len: usize, marks: *mut u8, marks_len: usize) -> u32;
     fn draw_settle_model(words: *const u64, words_len: usize, table: *mut u64, table_len: usize) -> u64;
     fn draw_block_model(words: *const u64, words_len: usize, block: u32, buffer: *mut u8, buffer_len: usize) -> u64;
@@ -64,6 +65,10 @@ impl Calls for Proved {
 
     fn close(&self, sheet: &[u8], closed: u32, marks: &[u8], groups: &mut [u64]) -> u32 {
         unsafe { draw_close(sheet.as_ptr(), sheet.len(), closed, marks.as_ptr(), marks.len(), groups.as_mut_ptr(), groups.len()) }
+    }
+
+    fn answer(&self, sheet: &[u8], output: &[u8], groups: &mut [u64]) -> u64 {
+        unsafe { draw_answer(sheet.as_ptr(), sheet.len(), output.as_ptr(), output.len(), groups.as_mut_ptr(), groups.len()) }
     }
 
     fn fill(&self, sheet: &[u8], groups: &[u64], marks: &mut [u8]) -> u32 {

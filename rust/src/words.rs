@@ -56,13 +56,19 @@ pub fn to_words(model: &Model, rest: u64) -> Vec<u64> {
     words
 }
 
-/// The model of words, or refusal 20. A missing word is 0, and a number has 32 bits.
+/// The model of words, or refusal 20: fewer words than a model has are refused as well, and so is a number that 32 bits do not hold.
 pub fn from_words(words: &[u64]) -> Result<Model, u32> {
     model_of(words).ok_or(OUT_OF_RANGE)
 }
 
+/// A word as a number of 32 bits; above them it is the largest, which is in no range.
+pub fn number(word: u64) -> u32 {
+    u32::try_from(word).unwrap_or(u32::MAX)
+}
+
 fn model_of(words: &[u64]) -> Option<Model> {
-    let number = |at: usize| words.get(at).copied().unwrap_or(0) as u32;
+    let words = words.get(..WORDS)?;
+    let number = |at: usize| number(words[at]);
     let [n, s, c] = [0, 1, 2].map(number);
     if !sizes_in_range(n, s, c) {
         return None;
@@ -79,7 +85,7 @@ fn model_of(words: &[u64]) -> Option<Model> {
 /// A group as its words have it, in range or not.
 pub fn group_at(words: &[u64], index: usize) -> Group {
     let word = |at: usize| words.get(FIRST_GROUP + GROUP_WORDS * index + at).copied().unwrap_or(0);
-    Group { fixed: word(0), possible: word(1), low: word(2) as u32, high: word(3) as u32 }
+    Group { fixed: word(0), possible: word(1), low: number(word(2)), high: number(word(3)) }
 }
 
 /// Entrants up to n, fixed within possible, low ≤ high ≤ n.
@@ -121,7 +127,9 @@ mod tests {
     fn a_line_of_code_7() {
         let words = to_words(&read(SHEET.replace("   3   2   1   2\n", "   3   7   1   2\n").as_bytes()).unwrap(), 0);
         assert_eq!(words[1027..1032], [7, 0, 1, 2, 0]);
-        for (place, value, wanted) in [(1028, 17, Ok(7)), (1028, u64::MAX, Ok(7)), (1031, 1, Ok(7)), (1031, 257, Ok(7)), (1029, 2, Err(20)), (1030, 3, Err(20))]
+        let seven = 7 | 1 << 32;
+        for (place, value, wanted) in
+            [(1027, seven, Err(20)), (1028, 17, Ok(7)), (1028, u64::MAX, Ok(7)), (1031, 1, Ok(7)), (1031, 257, Ok(7)), (1029, 2, Err(20)), (1030, 3, Err(20))]
         {
             let mut words = words.clone();
             words[place] = value;
@@ -138,6 +146,28 @@ mod tests {
             words[place] = value;
             assert_eq!(from_words(&words), Err(20), "word {place} as {value}");
         }
+    }
+
+    #[test]
+    fn a_number_of_more_than_32_bits_is_20_in_every_field() {
+        let words = to_words(&read(SHEET.as_bytes()).unwrap(), 0);
+        for place in [0, 1, 2, 5, 6, 9, 10, 1027, 1029, 1030] {
+            for more in [1 << 32, 1 << 63] {
+                let mut words = words.clone();
+                words[place] += more;
+                assert_eq!(from_words(&words), Err(20), "word {place} and {more:#x} more");
+            }
+        }
+    }
+
+    #[test]
+    fn fewer_words_than_a_model_has_are_20_and_more_are_ignored() {
+        let model = read(SHEET.as_bytes()).unwrap();
+        let words = to_words(&model, 0);
+        for many in 0..WORDS {
+            assert_eq!(from_words(&words[..many]), Err(20), "{many} words");
+        }
+        assert_eq!(from_words(&[&words[..], &[7]].concat()), Ok(model));
     }
 
     /// Groups past those of the sheet are empty, and have no entrant past n.

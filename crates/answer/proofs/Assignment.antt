@@ -9,6 +9,7 @@ use native.Mathlib.Decide.{decLe}
 use borrow.Author.Tests.{ne-eqb, le-leb, lt-leb}
 use lib.Dec.{eqb}
 use lib.ListN.{length, getD, drop, length-append, drop-of-length-le}
+use Rattle.model.specs.Limits.{limits}
 use Rattle.model.specs.Sheet.{linesOf}
 use Rattle.model.specs.Text.{decimal}
 use Rattle.model.proofs.Lists.{All, all-imp}
@@ -40,13 +41,13 @@ module _ (column : ℕ) (word : List ℕ) where
 
 -- ---- the text's length
 
-wrapped-length : (column v : ℕ) (values : List ℕ) → v + length values ≤ 65537 → length (wrapped column (wordsFrom v values)) ≤ 9 * length values + 5
+wrapped-length : (column v : ℕ) (values : List ℕ) → v + length values ≤ limits .variables + 1 → length (wrapped column (wordsFrom v values)) ≤ 9 * length values + 5
 wrapped-length column v [] h = rw (length-append (wordText column (32 ∷ 48 ∷ [])) (10 ∷ [])) (omega (arith, word-length column (32 ∷ 48 ∷ [])))
 wrapped-length column v (x ∷ values) h =
     rw (length-append (wordText column (valueText x v)) _)
     (omega (arith, word-length column (valueText x v), value-length x v (omega arith), wrapped-length (columnAfter column (valueText x v)) (suc v) values (omega arith)))
 
-pub assignment-length : (values : List ℕ) → length values ≤ 65536 → length (assignmentText values) ≤ 589830
+pub assignment-length : (values : List ℕ) → length values ≤ limits .variables → length (assignmentText values) ≤ 9 * limits .variables + 6
 unfolding assignmentText
 assignment-length values h = omega (arith, wrapped-length 1 1 values (omega arith))
 
@@ -75,7 +76,7 @@ module _ {values xs ys zs : List ℕ} {start n column i : ℕ} (room : length (a
   part-room t u e =
       omega (arith, room, v .next, kept v, kept (h .written), h .written .next, ap length e, length-append (h .text) (t ++ u), length-append t u)
 
-  module _ (few : length values ≤ 65536) (more : i < length values) where
+  module _ (few : length values ≤ limits .variables) (more : i < length values) where
     abbrev word : List ℕ
     word = valueText (getD values i 0) (i + 1)
 
@@ -164,7 +165,7 @@ value-plain x v = go (eqb x 1) (eqb x 2)
     go false true = ((λ q. omega (arith, q)), ((λ q. omega (arith, q)), decimal-plain v))
     go false false = tt
 
-values-lined : (column v : ℕ) (values : List ℕ) → column ≤ 78 → v + length values ≤ 65537 → Lined column (wrapped column (wordsFrom v values))
+values-lined : (column v : ℕ) (values : List ℕ) → column ≤ 78 → v + length values ≤ limits .variables + 1 → Lined column (wrapped column (wordsFrom v values))
 values-lined column v [] h few =
     word-lined column (32 ∷ 48 ∷ []) (10 ∷ []) h ((λ q. omega (arith, q)), ((λ q. omega (arith, q)), tt))
     (record { first = []; others = []; lines = refl; narrow = omega (arith, column-narrow column (32 ∷ 48 ∷ []) (omega arith)); short = tt })
@@ -172,7 +173,7 @@ values-lined column v (x ∷ values) h few =
     let short : columnAfter column (valueText x v) ≤ 78 = column-narrow column (valueText x v) (omega (arith, value-length x v (omega arith))) in
     word-lined column (valueText x v) _ h (value-plain x v) (values-lined (columnAfter column (valueText x v)) (suc v) values short (omega arith))
 
-pub lines-short : (values : List ℕ) → length values ≤ 65536 → All (λ l. length l ≤ 78) (linesOf (assignmentText values))
+pub lines-short : (values : List ℕ) → length values ≤ limits .variables → All (λ l. length l ≤ 78) (linesOf (assignmentText values))
 unfolding assignmentText
 lines-short values few =
     let r = values-lined 1 1 values (omega arith) (omega arith) in

@@ -1,20 +1,22 @@
 -- Writes of the groups' text, and its length. Assumes nothing.
-use Prim.Native.Nat.{ℕ, _+_, _≤_, _<_, min}
-use mathlib.Core.Path.{_≡_, ap, _∙_}
+use Prim.Native.Nat.{ℕ, _+_, _*_, _≤_, _<_, min}
+use mathlib.Core.Path.{_≡_, refl, ap, _∙_}
 use mathlib.Core.Bool.{Bool, true, false, cond}
 use mathlib.Core.List.{List, [], _∷_, _++_}
 use native.Mathlib.Omega.{arith}
 use borrow.Author.Tests.{lt-ltb, le-ltb}
+use lib.Dec.{ltb, eqb}
 use lib.ListN.{length, getD, take, length-append}
+use Rattle.model.specs.declared.Written.{Written}
 use Rattle.model.specs.declared.Written.the-variants.{Bytes, Refused}
 use Rattle.model.specs.Limits.{limits}
-use Rattle.model.specs.Lists.{each, range}
+use Rattle.model.specs.Lists.{each, range, stop}
 use Rattle.model.specs.Words.{has}
-use Rattle.model.specs.Text.{decimal}
+use Rattle.model.specs.Text.{decimal, writtenRefusal, writtenLength}
 use Rattle.encoding_laws.proofs.Decimal.{decimal-bound}
 use Rattle.text.specs.Put.{Wrote, placed, placeAfter}
 use Rattle.text.proofs.Writes.{wrote, no-room, then, kept, front}
-use Rattle.answer.specs.Groups.{entrantText, entrantsText, groupText, groupAt, groupsText, writtenGroups}
+use Rattle.answer.specs.Groups.{entrantText, entrantsText, groupText, groupAt, groupsText, writtenGroups, groupsRefusal, groupsLength}
 use Rattle.answer.proofs.Writing.{then-put, each-length, fits}
 
 -- ---- an entrant
@@ -28,7 +30,7 @@ module _ (w e : ℕ) where
   unfolding entrantText
   entrant-out h = rw h
 
-  entrant-length : e < 64 → length (entrantText w e) ≤ 3
+  entrant-length : e < limits .word → length (entrantText w e) ≤ 3
   unfolding entrantText
   entrant-length h = go (has w e)
     where
@@ -38,17 +40,17 @@ module _ (w e : ℕ) where
 
 -- ---- lengths
 
-entrants-length : (w : ℕ) → length (entrantsText w) ≤ 192
+entrants-length : (w : ℕ) → length (entrantsText w) ≤ 3 * limits .word
 unfolding entrantsText
-entrants-length w = each-length (entrantText w) 3 64 (entrant-length w)
+entrants-length w = each-length (entrantText w) 3 (limits .word) (entrant-length w)
 
-group-length : (number w : ℕ) → number ≤ 256 → length (groupText number w) ≤ 197
+group-length : (number w : ℕ) → number ≤ limits .groups → length (groupText number w) ≤ 3 * limits .word + 5
 unfolding groupText
 group-length number w h = simp length-append (omega (arith, decimal-bound 2 number (omega arith), entrants-length w))
 
-pub groups-length : (words : List ℕ) (k : ℕ) → k ≤ 256 → length (each (groupAt words) (range 0 k)) ≤ 50432
+pub groups-length : (words : List ℕ) (k : ℕ) → k ≤ limits .groups → length (each (groupAt words) (range 0 k)) ≤ limits .groups * (3 * limits .word + 5)
 groups-length words k h =
-    omega (arith, each-length (groupAt words) 197 k (λ i lt. group-length (i + 1) (getD words i 0) (omega arith)))
+    omega (arith, each-length (groupAt words) (3 * limits .word + 5) k (λ i lt. group-length (i + 1) (getD words i 0) (omega arith)))
 
 -- ---- a group's line, part by part
 
@@ -96,3 +98,26 @@ module _ (words : List ℕ) (s : ℕ) {xs ys : List ℕ} {k n : ℕ} (e : k ≡ 
 pub groups-inside : (words : List ℕ) (s room n : ℕ) → Bytes n ≡ writtenGroups words s room → n ≤ room
 unfolding writtenGroups
 groups-inside words s room n e = fits room (length (groupsText words s)) n e
+
+-- ---- the number and the value of the answer
+
+module _ (words : List ℕ) (s room : ℕ) where
+  refusal-is : writtenRefusal (writtenGroups words s room) ≡ groupsRefusal words s room
+  unfolding writtenGroups groupsRefusal
+  refusal-is = go (ltb room (length (groupsText words s)))
+    where
+      go : (x : Bool) → writtenRefusal (cond x (Refused 24) (Bytes (length (groupsText words s)))) ≡ stop x 24 0
+      go true = refl
+      go false = refl
+
+  length-is : writtenLength (writtenGroups words s room) ≡ groupsLength words s room
+  unfolding writtenGroups groupsLength groupsRefusal
+  length-is = go (ltb room (length (groupsText words s)))
+    where
+      go : (x : Bool) → writtenLength (cond x (Refused 24) (Bytes (length (groupsText words s)))) ≡ cond (eqb (stop x 24 0) 0) (length (groupsText words s)) 0
+      go true = refl
+      go false = refl
+
+  pub with-number : {A : Type 0} (w : Written) → (w ≡ writtenGroups words s room) × A
+      → (w ≡ writtenGroups words s room) × (A × ((writtenRefusal w ≡ groupsRefusal words s room) × (writtenLength w ≡ groupsLength words s room)))
+  with-number w (e, a) = (e, (a, (ap writtenRefusal e ∙ refusal-is, ap writtenLength e ∙ length-is)))

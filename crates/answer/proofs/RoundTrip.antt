@@ -41,15 +41,15 @@ group-back g some h =
 
 -- ---- the words of a line
 
-abbrev Spaceless : List ℕ → Type 0
+abbrev pub Spaceless : List ℕ → Type 0
 Spaceless w = All (λ b. b ≡ 32 → ⊥) w
 
 -- bytes other than a space stand in front of the first word
-in-first : (w t l : List ℕ) (ls : List (List ℕ)) → Spaceless w → wordsOf t ≡ l ∷ ls → wordsOf (w ++ t) ≡ (w ++ l) ∷ ls
+pub in-first : (w t l : List ℕ) (ls : List (List ℕ)) → Spaceless w → wordsOf t ≡ l ∷ ls → wordsOf (w ++ t) ≡ (w ++ l) ∷ ls
 in-first [] t l ls p e = e
 in-first (b ∷ w) t l ls p e = rw (ne-eqb b 32 (p .0), in-first w t l ls (p .1) e)
 
-decimal-spaceless : (v : ℕ) → Spaceless (decimal v)
+pub decimal-spaceless : (v : ℕ) → Spaceless (decimal v)
 decimal-spaceless v = all-imp _ _ (λ b d q. omega (arith, d .0, q)) (decimal v) (decimal-digits v)
 
 abbrev entrantWord : ℕ → ℕ → List (List ℕ)

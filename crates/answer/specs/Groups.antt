@@ -2,11 +2,11 @@
 use Prim.Native.Nat.{ℕ, _+_, min}
 use mathlib.Core.Bool.{cond}
 use mathlib.Core.List.{List, [], _∷_, _++_}
-use lib.Dec.{ltb}
+use lib.Dec.{ltb, eqb}
 use lib.ListN.{length, getD}
 use Rattle.model.specs.declared.Written.{Written}
 use Rattle.model.specs.declared.Written.the-variants.{Bytes, Refused}
-use Rattle.model.specs.Lists.{each, range}
+use Rattle.model.specs.Lists.{each, range, stop}
 use Rattle.model.specs.Words.{has}
 use Rattle.model.specs.Limits.{limits}
 use Rattle.model.specs.Text.{decimal}
@@ -16,7 +16,7 @@ unfoldable pub entrantText : ℕ → ℕ → List ℕ
 entrantText w e = cond (has w e) ((32 ∷ []) ++ decimal (e + 1)) []
 
 unfoldable pub entrantsText : ℕ → List ℕ
-entrantsText w = each (entrantText w) (range 0 64)
+entrantsText w = each (entrantText w) (range 0 (limits .word))
 
 -- the number, a colon, the entrants, byte 10
 unfoldable pub groupText : ℕ → ℕ → List ℕ
@@ -33,3 +33,10 @@ groupsText words s = each (groupAt words) (range 0 (min s (limits .groups)))
 unfoldable pub writtenGroups : List ℕ → ℕ → ℕ → Written
 writtenGroups words s room =
     cond (ltb room (length (groupsText words s))) (Refused 24) (Bytes (length (groupsText words s)))
+
+-- its number and its value
+unfoldable pub groupsRefusal : List ℕ → ℕ → ℕ → ℕ
+groupsRefusal words s room = stop (ltb room (length (groupsText words s))) 24 0
+
+unfoldable pub groupsLength : List ℕ → ℕ → ℕ → ℕ
+groupsLength words s room = cond (eqb (groupsRefusal words s room) 0) (length (groupsText words s)) 0

@@ -6,7 +6,8 @@ use lib.Dec.{ltb, eqb}
 use lib.ListN.{length, getD}
 use Rattle.model.specs.declared.Written.{Written}
 use Rattle.model.specs.declared.Written.the-variants.{Bytes, Refused}
-use Rattle.model.specs.Lists.{those, each, range}
+use Rattle.model.specs.Lists.{those, each, range, stop}
+use Rattle.model.specs.Limits.{limits}
 use Rattle.model.specs.Assignment.{isSaid}
 use Rattle.model.specs.Text.{decimal}
 use Rattle.text.specs.Put.{placed}
@@ -30,11 +31,18 @@ unsaidCount values = length (those (λ x. not (isSaid x)) values)
 
 -- ---- a text of values in a buffer: this one, or that of an assignment
 
--- 26 of more values than a listing of 65,536 variables has; 24 where the buffer is shorter than the text
+-- 26 of more values than a listing has variables; 24 where the buffer is shorter than the text
 unfoldable pub writtenText : List ℕ → List ℕ → ℕ → Written
 writtenText values text room =
-    cond (ltb 65536 (length values)) (Refused 26)
+    cond (ltb (limits .variables) (length values)) (Refused 26)
     (cond (ltb room (length text)) (Refused 24) (Bytes (length text)))
 
+-- its number and its value
+unfoldable pub textRefusal : List ℕ → List ℕ → ℕ → ℕ
+textRefusal values text room = stop (ltb (limits .variables) (length values)) 26 (stop (ltb room (length text)) 24 0)
+
+unfoldable pub textLength : List ℕ → List ℕ → ℕ → ℕ
+textLength values text room = cond (eqb (textRefusal values text room) 0) (length text) 0
+
 unfoldable pub textBuffer : List ℕ → List ℕ → List ℕ → List ℕ
-textBuffer values text buf = cond (ltb 65536 (length values)) buf (placed text 0 buf)
+textBuffer values text buf = cond (ltb (limits .variables) (length values)) buf (placed text 0 buf)

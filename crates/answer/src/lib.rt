@@ -1,25 +1,26 @@
 // A solver's answer as text: the groups of a draw, a line for each, and the values of the variables; and an assignment as a solver would say it.
 ghost use mathlib.Core.Path.{_≡_};
-ghost use Prim.Native.Nat.{_+_, _≤_, _<_, min};
+ghost use Prim.Native.Nat.{_+_, _*_, _≤_, _<_, min};
 ghost use lib.ListN.{length};
 ghost use Rattle.model.specs.Lists.{each, range};
 ghost use Rattle.model.specs.Assignment.{isSaid};
 ghost use Rattle.model.specs.Limits.{limits};
+ghost use Rattle.model.specs.Text.{writtenRefusal, writtenLength};
 ghost use Rattle.text.specs.Put.{Wrote, placed};
-ghost use Rattle.answer.specs.Values.{valueText, saidText, valuesText, unsaidCount, writtenText, textBuffer};
+ghost use Rattle.answer.specs.Values.{valueText, saidText, valuesText, unsaidCount, writtenText, textRefusal, textLength, textBuffer};
 ghost use Rattle.answer.specs.Assignment.{wordText, columnAfter, assignmentText};
-ghost use Rattle.answer.specs.Groups.{entrantText, entrantsText, groupText, groupAt, groupsText, writtenGroups};
+ghost use Rattle.answer.specs.Groups.{entrantText, entrantsText, groupText, groupAt, groupsText, writtenGroups, groupsRefusal, groupsLength};
 use model::Model;
 use model::Written;
 
 // ---- groups
 
 // The most bytes of all lines: each has a number of up to three digits, a colon, 64 entrants of up to three bytes, and a newline.
-const GROUPS_MOST: usize = 50432;
+const GROUPS_MOST: usize = Model::GROUPS * (3 * Model::WORD as usize + 5);
 
 // Entrant e + 1 after one blank, where it is in w.
 fn put_entrant(buf: &mut [u8], at: usize, w: u64, e: u32) -> usize
-    requires { ⌜ e < 64 ⌝ }
+    requires { ⌜ e < limits .word ⌝ }
     requires { ⌜ at + length (entrantText w e) ≤ length (now buf) ⌝ }
     ensures { λ r. ⌜ Wrote (entrantText w e) at (now (buf .entry)) (now (buf .exit)) r ⌝ }
 {
@@ -73,7 +74,7 @@ fn put_groups(buf: &mut [u8], words: [u64; Model::GROUPS], k: usize) -> usize
 
 // Room for all lines. Only its length is told: the list of its zeros is too long for the prover to look at.
 fn groups_space() -> [u8; GROUPS_MOST]
-    ensures { λ r. ⌜ length r ≡ 50432 ⌝ }
+    ensures { λ r. ⌜ length r ≡ limits .groups * (3 * limits .word + 5) ⌝ }
 {
     [0; GROUPS_MOST]
 }
@@ -93,6 +94,7 @@ fn count(s: u32) -> usize
 pub fn write_groups(words: [u64; Model::GROUPS], s: u32, buf: &mut [u8]) -> Written
     ensures { λ r. ⌜ r ≡ writtenGroups words s (length (now (buf .entry))) ⌝ }
     ensures { λ r. ⌜ now (buf .exit) ≡ placed (groupsText words s) 0 (now (buf .entry)) ⌝ }
+    ensures { λ r. ⌜ (writtenRefusal r ≡ groupsRefusal words s (length (now (buf .entry)))) × (writtenLength r ≡ groupsLength words s (length (now (buf .entry)))) ⌝ }
 {
     let mut all = groups_space();
     let n = put_groups(&mut all, words, count(s));
@@ -105,10 +107,8 @@ pub fn write_groups(words: [u64; Model::GROUPS], s: u32, buf: &mut [u8]) -> Writ
 
 // ---- values
 
-// The most variables of a listing that is read, and the most bytes of their text: each has a space, a minus sign and up to five digits.
-const VARIABLES: usize = 65536;
-
-const VALUES_MOST: usize = 458754;
+// The most bytes of the text: each value has a space, a minus sign and up to five digits.
+const VALUES_MOST: usize = 7 * Model::VARIABLES + 2;
 
 // Variable v after one blank, where it is said.
 fn put_value(buf: &mut [u8], at: usize, x: u8, v: u32) -> usize
@@ -127,7 +127,7 @@ fn put_value(buf: &mut [u8], at: usize, x: u8, v: u32) -> usize
 }
 
 fn put_values(buf: &mut [u8], at: usize, values: &[u8]) -> usize
-    requires { ⌜ length (now values) ≤ 65536 ⌝ }
+    requires { ⌜ length (now values) ≤ limits .variables ⌝ }
     requires { ⌜ at + length (saidText (now values)) ≤ length (now buf) ⌝ }
     ensures { λ r. ⌜ Wrote (saidText (now (values .entry))) at (now (buf .entry)) (now (buf .exit)) r ⌝ }
 {
@@ -143,7 +143,7 @@ fn put_values(buf: &mut [u8], at: usize, values: &[u8]) -> usize
 
 // `v 1 -2 3`
 fn put_line(buf: &mut [u8], values: &[u8]) -> usize
-    requires { ⌜ length (now values) ≤ 65536 ⌝ }
+    requires { ⌜ length (now values) ≤ limits .variables ⌝ }
     requires { ⌜ length (valuesText (now values)) ≤ length (now buf) ⌝ }
     ensures { λ r. ⌜ Wrote (valuesText (now (values .entry))) 0 (now (buf .entry)) (now (buf .exit)) r ⌝ }
 {
@@ -153,17 +153,18 @@ fn put_line(buf: &mut [u8], values: &[u8]) -> usize
 }
 
 fn values_space() -> [u8; VALUES_MOST]
-    ensures { λ r. ⌜ length r ≡ 458754 ⌝ }
+    ensures { λ r. ⌜ length r ≡ 7 * limits .variables + 2 ⌝ }
 {
     [0; VALUES_MOST]
 }
 
-// The line of the values that are said; 26 of more than 65,536 values, 24 where the buffer is shorter than the text, and then no byte changes.
+// The line of the values that are said; 26 of more values than a listing has variables, 24 where the buffer is shorter than the text, and then no byte changes.
 pub fn write_values(values: &[u8], buf: &mut [u8]) -> Written
     ensures { λ r. ⌜ r ≡ writtenText (now (values .entry)) (valuesText (now (values .entry))) (length (now (buf .entry))) ⌝ }
     ensures { λ r. ⌜ now (buf .exit) ≡ textBuffer (now (values .entry)) (valuesText (now (values .entry))) (now (buf .entry)) ⌝ }
+    ensures { λ r. ⌜ (writtenRefusal r ≡ textRefusal (now (values .entry)) (valuesText (now (values .entry))) (length (now (buf .entry)))) × (writtenLength r ≡ textLength (now (values .entry)) (valuesText (now (values .entry))) (length (now (buf .entry)))) ⌝ }
 {
-    if VARIABLES < values.len() {
+    if Model::VARIABLES < values.len() {
         return Written::Refused(26);
     }
     let mut all = values_space();
@@ -208,7 +209,7 @@ const COLUMNS: usize = 78;
 const WORD_MOST: usize = 7;
 
 // The most bytes of the text: each word, and the newline and `v` that it may begin with; the closing 0, the first `v` and the last newline.
-const ASSIGNMENT_MOST: usize = 589830;
+const ASSIGNMENT_MOST: usize = 9 * Model::VARIABLES + 6;
 
 // Where the next word goes: its place, and how many columns of the line are taken.
 struct Pen {
@@ -240,7 +241,7 @@ fn put_word(buf: &mut [u8], pen: Pen, word: &[u8]) -> Pen
 
 // The word of a value, which a local array measures.
 fn put_value_word(buf: &mut [u8], pen: Pen, x: u8, v: u32) -> Pen
-    requires { ⌜ (v ≤ 65536) × (pen .column ≤ 78) ⌝ }
+    requires { ⌜ (v ≤ limits .variables) × (pen .column ≤ 78) ⌝ }
     requires { ⌜ pen .at + length (wordText (pen .column) (valueText x v)) ≤ length (now buf) ⌝ }
     ensures { λ r. ⌜ Wrote (wordText (pen .column) (valueText x v)) (pen .at) (now (buf .entry)) (now (buf .exit)) (r .at) ⌝ }
     ensures { λ r. ⌜ r .column ≡ columnAfter (pen .column) (valueText x v) ⌝ }
@@ -251,7 +252,7 @@ fn put_value_word(buf: &mut [u8], pen: Pen, x: u8, v: u32) -> Pen
 }
 
 fn put_assignment(buf: &mut [u8], values: &[u8]) -> usize
-    requires { ⌜ length (now values) ≤ 65536 ⌝ }
+    requires { ⌜ length (now values) ≤ limits .variables ⌝ }
     requires { ⌜ length (assignmentText (now values)) ≤ length (now buf) ⌝ }
     ensures { λ r. ⌜ Wrote (assignmentText (now (values .entry))) 0 (now (buf .entry)) (now (buf .exit)) r ⌝ }
 {
@@ -271,17 +272,18 @@ fn put_assignment(buf: &mut [u8], values: &[u8]) -> usize
 }
 
 fn assignment_space() -> [u8; ASSIGNMENT_MOST]
-    ensures { λ r. ⌜ length r ≡ 589830 ⌝ }
+    ensures { λ r. ⌜ length r ≡ 9 * limits .variables + 6 ⌝ }
 {
     [0; ASSIGNMENT_MOST]
 }
 
-// The values on `v` lines with a closing 0; 26 of more than 65,536 values, 24 where the buffer is shorter than the text, and then no byte changes.
+// The values on `v` lines with a closing 0; 26 of more values than a listing has variables, 24 where the buffer is shorter than the text, and then no byte changes.
 pub fn write_assignment(values: &[u8], buf: &mut [u8]) -> Written
     ensures { λ r. ⌜ r ≡ writtenText (now (values .entry)) (assignmentText (now (values .entry))) (length (now (buf .entry))) ⌝ }
     ensures { λ r. ⌜ now (buf .exit) ≡ textBuffer (now (values .entry)) (assignmentText (now (values .entry))) (now (buf .entry)) ⌝ }
+    ensures { λ r. ⌜ (writtenRefusal r ≡ textRefusal (now (values .entry)) (assignmentText (now (values .entry))) (length (now (buf .entry)))) × (writtenLength r ≡ textLength (now (values .entry)) (assignmentText (now (values .entry))) (length (now (buf .entry)))) ⌝ }
 {
-    if VARIABLES < values.len() {
+    if Model::VARIABLES < values.len() {
         return Written::Refused(26);
     }
     let mut all = assignment_space();

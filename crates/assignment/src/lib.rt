@@ -4,6 +4,7 @@ ghost use mathlib.Core.Bool.{false};
 ghost use Prim.Native.Nat.{_<_};
 ghost use lib.ListN.{length, getD};
 ghost use Rattle.model.specs.Assignment.{lineRead, valuesAfter};
+ghost use Rattle.correctness.specs.Entries.{LineReads};
 use line_form::Form;
 use model::LineRead;
 use model::Reading;
@@ -37,10 +38,11 @@ fn read_values(reading: Reading, line: &[u8], values: &mut [u8]) -> LineRead
     }
 }
 
-// A solver line read: refused with its number and nothing changed, or its literals written.
+// A solver line read: refused with its number and nothing changed, or its literals written. As demand 3 judges it, on the lines alone: `LineReads`.
 pub fn read_line(reading: Reading, line: &[u8], values: &mut [u8]) -> LineRead
     ensures { λ r. ⌜ r ≡ lineRead reading (now (line .entry)) (now (values .entry)) ⌝ }
     ensures { λ r. ⌜ now (values .exit) ≡ valuesAfter reading (now (line .entry)) (now (values .entry)) ⌝ }
+    ensures { λ r. ⌜ LineReads reading (now (line .entry)) (now (values .entry)) r (now (values .exit)) ⌝ }
 {
     if line.len() == 0 {
         return LineRead {

@@ -1,67 +1,28 @@
 -- From a refutation of the clauses to the sheet. Assumes nothing.
-use Prim.Native.Nat.{ℕ, _+_, _-_}
-use mathlib.Core.Path.{_≡_, refl, sym, ap, ap₂, _∙_, subst}
-use mathlib.Core.Logic.{⊎-elim}
-use mathlib.Core.Bool.{Bool, true, false, cond}
-use mathlib.Core.List.{List, [], _∷_}
+use Prim.Native.Nat.{ℕ, _-_}
+use mathlib.Core.Path.{_≡_, refl, sym, ap, _∙_, subst}
+use mathlib.Core.Logic.{_⊎_, inl, inr, ⊎-elim}
+use mathlib.Core.Bool.{Bool, true, false}
+use mathlib.Core.List.{List}
+use native.Mathlib.Decide.{ℕ-discrete}
 use native.Mathlib.Omega.{arith}
 use borrow.Author.Tests.{eq-eqb, ne-eqb}
-use lib.Dec.{T, leb, ltb, eqb}
-use lib.ListN.{length, getD}
-use Rattle.model.specs.declared.Model.{Model}
+use lib.Dec.{T}
+use lib.ListN.{length, replicate}
 use Rattle.model.specs.declared.SheetRead.{SheetRead}
 use Rattle.model.specs.declared.Propagated.{Propagated}
-use Rattle.model.specs.Limits.{limits}
-use Rattle.model.specs.Model.{zeroModel}
-use Rattle.model.specs.Sheet.{linesOf, lineRefusal, withLine, refusedSheet, afterLast, readLines, readSheet}
+use Rattle.model.specs.Sheet.{readSheet}
 use Rattle.model.specs.Propagate.{propagated, Settled}
 use Rattle.model.specs.Close.{satisfying}
-use Rattle.model.specs.Solution.{isSolution}
 use Rattle.model.specs.Demand.{Accepted}
+use Rattle.propagation_laws.proofs.Sheets.{accepted-of}
 use Rattle.correctness.proofs.Demand3.{sheet-answered, sheet-none, sheet-settled, sheet-assignment}
-use Rattle.lrat.specs.declared.Reader.{Reader}
 use Rattle.refutation.specs.declared.State.{State}
 use Rattle.refutation.specs.Sound.{Holds, Keeps}
 use Rattle.refutation.proofs.Marks.{true-false}
 use Rattle.certificate.specs.declared.Opening.{Opening}
 use Rattle.certificate.specs.declared.Opening.the-variants.{Refused, SettledOut, Open}
-use Rattle.certificate.specs.declared.Standing.{Standing}
-use Rattle.certificate.specs.NoDraw.{NoDraw, settledOpening, readOpening, openingOf, Unrefuted, Stands}
-
--- ---- an accepted sheet's answer has line 0
-
-same-or : (x : Bool) (p q : SheetRead) → (p .refusal ≡ 0 → p .line ≡ 0) → (q .refusal ≡ 0 → q .line ≡ 0) → cond x p q .refusal ≡ 0 → cond x p q .line ≡ 0
-same-or true p q f g = f
-same-or false p q f g = g
-
-refused-line : (r k : ℕ) → (r ≡ 0 → ⊥) → refusedSheet r k .refusal ≡ 0 → refusedSheet r k .line ≡ 0
-unfolding refusedSheet
-refused-line r k n e = absurd (n e)
-
-lines-line : (ls : List (List ℕ)) (done : ℕ) (m : Model) → readLines ls done m .refusal ≡ 0 → readLines ls done m .line ≡ 0
-unfolding afterLast
-lines-line [] done m =
-    same-or (leb done (m .s + m .c)) (refusedSheet 5 (done + 1)) (record { refusal = 0; line = 0; model = m }) (refused-line 5 (done + 1) (λ z. omega arith)) (λ e. refl)
-lines-line (l ∷ ls) done m = go (eqb (lineRefusal (m .n) (m .s) (m .c) done l) 0) refl (lines-line ls (done + 1) (withLine done m l))
-  where
-    go : (x : Bool) → eqb (lineRefusal (m .n) (m .s) (m .c) done l) 0 ≡ x → (readLines ls (done + 1) (withLine done m l) .refusal ≡ 0 → readLines ls (done + 1) (withLine done m l) .line ≡ 0)
-        → cond x (readLines ls (done + 1) (withLine done m l)) (refusedSheet (lineRefusal (m .n) (m .s) (m .c) done l) (done + 1)) .refusal ≡ 0
-        → cond x (readLines ls (done + 1) (withLine done m l)) (refusedSheet (lineRefusal (m .n) (m .s) (m .c) done l) (done + 1)) .line ≡ 0
-    go true e f = f
-    go false e f = refused-line (lineRefusal (m .n) (m .s) (m .c) done l) (done + 1) (λ z. true-false (sym (eq-eqb (lineRefusal (m .n) (m .s) (m .c) done l) 0 z) ∙ e))
-
-sheet-line : (b : List ℕ) → readSheet b .refusal ≡ 0 → readSheet b .line ≡ 0
-unfolding readSheet
-sheet-line b =
-    let first = refused-line 1 0 (λ z. omega arith) in
-    let second = refused-line 2 0 (λ z. omega arith) in
-    same-or (ltb (limits .sheet) (length b)) _ _ first
-    (same-or (eqb (length b) 0) _ _ second (same-or (eqb (getD b (length b - 1) 0) 10) _ _ (lines-line (linesOf b) 0 zeroModel) second))
-
-pub accepted-of : (b : List ℕ) (r : SheetRead) → r ≡ readSheet b → r .refusal ≡ 0 → Accepted b (r .model)
-accepted-of b r e z =
-    let l : r .line ≡ 0 = ap (λ (x : SheetRead). x .line) e ∙ sheet-line b (sym (ap (λ (x : SheetRead). x .refusal) e) ∙ z) in
-    sym e ∙ ap₂ (λ (x y : ℕ). record { refusal = x; line = y; model = r .model }) z l
+use Rattle.certificate.specs.NoDraw.{NoDraw, settledOpening, readOpening, openingOf, openingRefusal, openingLine, readRefusal, sheetRefusal, sheetLine, isOpen, cleared, leftAs, Unrefuted}
 
 -- ---- openings
 
@@ -124,3 +85,66 @@ refused-open e = let z : _≡_ {A = ℕ} 0 1 = cc in omega arith
 
 pub out-open : SettledOut ≡ Open → ⊥
 out-open e = let z : _≡_ {A = ℕ} 0 1 = cc in omega arith
+
+-- ---- what is left of a buffer
+
+module _ (b buffer after : List ℕ) where
+  pub left-cleared : isOpen (openingOf b) ≡ true → (at : List ℕ) → after ≡ cleared at → length at ≡ length buffer → after ≡ leftAs b buffer
+  unfolding leftAs cleared
+  left-cleared e at q l = q ∙ ap (λ (k : ℕ). replicate k 0) l ∙ rw e refl
+
+  pub left-unchanged : isOpen (openingOf b) ≡ false → after ≡ buffer → after ≡ leftAs b buffer
+  unfolding leftAs
+  left-unchanged e q = q ∙ rw e refl
+
+pub not-open : (o : Opening) → isOpen o ≡ false → o ≡ Open → ⊥
+not-open o e q = true-false (sym (ap isOpen q) ∙ e)
+
+-- ---- an opening's number and value
+
+module _ (b : List ℕ) where
+  abbrev Told : Opening → Type 0
+  Told o = (openingRefusal o ≡ sheetRefusal b) × (openingLine o ≡ sheetLine b)
+
+  module _ (r : SheetRead) (e : r ≡ readSheet b) where
+    refusal-is : readRefusal r ≡ sheetRefusal b
+    unfolding sheetRefusal
+    refusal-is = ap readRefusal e
+
+    line-is : r .line ≡ sheetLine b
+    unfolding sheetLine
+    line-is = ap (λ (x : SheetRead). x .line) e
+
+    refused-told : (r .refusal ≡ 0 → ⊥) → Told (openingOf b)
+    refused-told n =
+        let own : r .refusal ≡ readRefusal r = rw (ne-eqb (r .refusal) 0 n) refl in
+        subst Told (refused-opening b r e n) (own ∙ refusal-is, line-is)
+
+    module _ (z : r .refusal ≡ 0) where
+      h : Accepted b (r .model)
+      h = accepted-of b r e z
+
+      no-line : 0 ≡ r .line
+      no-line = sym (ap (λ (x : SheetRead). x .line) (e ∙ h))
+
+      settled-told : (k : ℕ) → k ≡ readRefusal r → (k ≡ 0) ⊎ (k ≡ 21) → Told (settledOpening k)
+      settled-told k q (inl o) =
+          (ap (λ (k : ℕ). openingRefusal (settledOpening k)) o ∙ sym o ∙ q ∙ refusal-is, ap (λ (k : ℕ). openingLine (settledOpening k)) o ∙ no-line ∙ line-is)
+      settled-told k q (inr o) =
+          (ap (λ (k : ℕ). openingRefusal (settledOpening k)) o ∙ sym o ∙ q ∙ refusal-is, ap (λ (k : ℕ). openingLine (settledOpening k)) o ∙ no-line ∙ line-is)
+
+      open-told : Told (openingOf b)
+      open-told =
+          let own : propagated (r .model) .refusal ≡ readRefusal r = rw (eq-eqb (r .refusal) 0 z) refl in
+          subst Told (sym (opening-is b r e z (propagated (r .model)) refl))
+          (settled-told (propagated (r .model) .refusal) own (sheet-answered b (r .model) h))
+
+  numbered : Told (openingOf b)
+  numbered = go (ℕ-discrete (readSheet b .refusal) 0)
+    where
+      go : Dec (readSheet b .refusal ≡ 0) → Told (openingOf b)
+      go (yes z) = open-told (readSheet b) refl z
+      go (no n) = refused-told (readSheet b) refl n
+
+  pub opening-told : (o : Opening) → o ≡ openingOf b → (o ≡ openingOf b) × (openingRefusal o ≡ sheetRefusal b) × (openingLine o ≡ sheetLine b)
+  opening-told o e = (e, ap openingRefusal e ∙ numbered .0, ap openingLine e ∙ numbered .1)

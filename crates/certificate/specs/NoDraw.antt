@@ -4,6 +4,7 @@ use mathlib.Core.Path.{_≡_}
 use mathlib.Core.Bool.{Bool, true, false, cond}
 use mathlib.Core.List.{List}
 use lib.Dec.{T, eqb}
+use lib.ListN.{length, replicate}
 use Rattle.model.specs.declared.Model.{Model}
 use Rattle.model.specs.declared.SheetRead.{SheetRead}
 use Rattle.model.specs.Sheet.{readSheet}
@@ -35,7 +36,40 @@ readOpening r = cond (eqb (r .refusal) 0) (settledOpening (propagated (r .model)
 unfoldable pub openingOf : List ℕ → Opening
 openingOf b = readOpening (readSheet b)
 
+-- its number and value: the refusal, 21 where it settles out, 0 where it is open; and the line of a refusal
+abbrev pub openingRefusal : Opening → ℕ
+openingRefusal (Refused refusal line) = refusal
+openingRefusal SettledOut = 21
+openingRefusal Open = 0
+
+abbrev pub openingLine : Opening → ℕ
+openingLine (Refused refusal line) = line
+openingLine SettledOut = 0
+openingLine Open = 0
+
+-- the same by what the reader and settling answer
+abbrev pub readRefusal : SheetRead → ℕ
+readRefusal r = cond (eqb (r .refusal) 0) (propagated (r .model) .refusal) (r .refusal)
+
+unfoldable pub sheetRefusal : List ℕ → ℕ
+sheetRefusal b = readRefusal (readSheet b)
+
+unfoldable pub sheetLine : List ℕ → ℕ
+sheetLine b = readSheet b .line
+
+abbrev pub isOpen : Opening → Bool
+isOpen (Refused refusal line) = false
+isOpen SettledOut = false
+isOpen Open = true
+
 -- ---- after it
+
+unfoldable pub cleared : List ℕ → List ℕ
+cleared buffer = replicate (length buffer) 0
+
+-- what is left of a buffer that was lent for the whole: zeros where the sheet is open, and else the buffer as it was
+unfoldable pub leftAs : List ℕ → List ℕ → List ℕ
+leftAs b buffer = cond (isOpen (openingOf b)) (cleared buffer) buffer
 
 -- what a verdict says of the sheet alone
 abbrev pub openingIn : Verdict → Opening

@@ -7,7 +7,7 @@ ghost use lib.Dec.{T};
 ghost use Rattle.model.specs.Propagate.{Settled};
 ghost use Rattle.model.specs.Close.{satisfying};
 ghost use Rattle.refutation.specs.Sound.{Holds};
-ghost use Rattle.certificate.specs.NoDraw.{NoDraw, settledOpening, openingOf, openingIn, isNo, Stands};
+ghost use Rattle.certificate.specs.NoDraw.{NoDraw, openingOf, openingRefusal, openingLine, sheetRefusal, sheetLine, openingIn, isOpen, isNo, cleared, leftAs, Stands};
 use loading::Loaded;
 use lrat::Reader;
 use model::Model;
@@ -125,7 +125,7 @@ pub fn begin(
     index: &mut [u32],
     marks: &mut [u32],
 ) -> Standing
-    ensures { λ r. ⌜ r .opening ≡ openingOf (now (sheet .entry)) ⌝ }
+    ensures { λ r. ⌜ (r .opening ≡ openingOf (now (sheet .entry))) × (openingRefusal (r .opening) ≡ sheetRefusal (now (sheet .entry))) × (openingLine (r .opening) ≡ sheetLine (now (sheet .entry))) ⌝ }
     ensures { λ r. ⌜ Stands (now (sheet .entry)) r (now (store .exit)) (now (index .exit)) (now (marks .exit)) ⌝ }
     ensures { λ r. ⌜ ((r .opening ≡ Opening.Open → ⊥) → (now (text .exit) ≡ now (text .entry)) × (now (store .exit) ≡ now (store .entry)) × (now (index .exit) ≡ now (index .entry)) × (now (marks .exit) ≡ now (marks .entry))) ⌝ }
 {
@@ -195,7 +195,7 @@ fn judged(r: Reader) -> Verdict
 }
 
 // The whole at once.
-pub fn certify(
+fn judge(
     sheet: &[u8],
     certificate: &[u8],
     text: &mut [u8],
@@ -210,4 +210,46 @@ pub fn certify(
     let s = begin(sheet, text, store, index, marks);
     let t = feed(s, certificate, store, index, marks);
     finish(t)
+}
+
+// Whether the certificate was read.
+fn is_open(v: Verdict) -> bool
+    ensures { λ r. ⌜ r ≡ isOpen (openingIn v) ⌝ }
+{
+    match v {
+        Verdict::Refused(refusal, line) => false,
+        Verdict::SettledOut => false,
+        Verdict::Certified => true,
+        Verdict::NotCertified(reason, line) => true,
+    }
+}
+
+fn clear(text: &mut [u8], store: &mut [u32], index: &mut [u32], marks: &mut [u32])
+    ensures { λ r. ⌜ (now (text .exit) ≡ cleared (now (text .entry))) × (now (store .exit) ≡ cleared (now (store .entry))) × (now (index .exit) ≡ cleared (now (index .entry))) × (now (marks .exit) ≡ cleared (now (marks .entry))) ⌝ }
+{
+    buffers::clear_bytes(text);
+    buffers::clear_words(store);
+    buffers::clear_words(index);
+    buffers::clear_words(marks);
+}
+
+// The whole at once, in buffers that are left cleared, or as they were where the sheet is refused or settles out.
+pub fn certify(
+    sheet: &[u8],
+    certificate: &[u8],
+    text: &mut [u8],
+    store: &mut [u32],
+    index: &mut [u32],
+    marks: &mut [u32],
+) -> Verdict
+    ensures { λ r. ⌜ (openingIn r ≡ openingOf (now (sheet .entry))) × (openingRefusal (openingIn r) ≡ sheetRefusal (now (sheet .entry))) × (openingLine (openingIn r) ≡ sheetLine (now (sheet .entry))) ⌝ }
+    ensures { λ r. ⌜ (isNo r ≡ true → NoDraw (now (sheet .entry))) ⌝ }
+    ensures { λ r. ⌜ (now (text .exit) ≡ leftAs (now (sheet .entry)) (now (text .entry))) × (now (store .exit) ≡ leftAs (now (sheet .entry)) (now (store .entry))) × (now (index .exit) ≡ leftAs (now (sheet .entry)) (now (index .entry))) × (now (marks .exit) ≡ leftAs (now (sheet .entry)) (now (marks .entry))) ⌝ }
+{
+    let v = judge(sheet, certificate, text, store, index, marks);
+    if !is_open(v) {
+        return v;
+    }
+    clear(text, store, index, marks);
+    v
 }

@@ -1,13 +1,14 @@
 // Whether a certificate shows that a sheet has no draw: the sheet is the file that argument 1 names, the certificate comes on standard input.
 ghost use mathlib.Core.Path.{_≡_};
+ghost use mathlib.Core.Bool.{true};
 ghost use mathlib.Core.List.{List};
 ghost use Prim.Native.Nat.{ℕ, _+_, _*_};
 ghost use lib.ListN.{length};
 ghost use Rattle.model.specs.Limits.{limits};
 ghost use Rattle.report.specs.Messages.{Counted};
-ghost use Rattle.certificate.specs.NoDraw.{Stands};
+ghost use Rattle.certificate.specs.NoDraw.{NoDraw, Stands};
+ghost use Rattle.verdict.specs.Verdict.{printed, saysNo};
 use certificate::Standing;
-use certificate::Verdict;
 use libc::STDERR_FILENO;
 use libc::STDIN_FILENO;
 use libc::STDOUT_FILENO;
@@ -39,17 +40,6 @@ fn say(fd: i32, m: Message)
     write(fd, &bytes[..n]);
 }
 
-fn say_verdict(v: Verdict) {
-    match v {
-        Verdict::Refused(refusal, line) => say(STDOUT_FILENO, report::refused_at(refusal, line)),
-        Verdict::SettledOut => say(STDOUT_FILENO, report::no_draw(false)),
-        Verdict::Certified => say(STDOUT_FILENO, report::no_draw(true)),
-        Verdict::NotCertified(reason, line) => {
-            say(STDOUT_FILENO, report::not_certified(reason, line))
-        }
-    }
-}
-
 // The whole certificate. A proved loop has to end: its turns are counted down from a number that no run uses up.
 fn read_certificate(
     s: Standing,
@@ -75,10 +65,21 @@ fn read_certificate(
     t
 }
 
-fn answer(sheet: &[u8], text: &mut [u8], store: &mut [u32], index: &mut [u32], marks: &mut [u32]) {
+// What is printed: where it begins with `no draw`, the sheet has none.
+fn answered(
+    sheet: &[u8],
+    text: &mut [u8],
+    store: &mut [u32],
+    index: &mut [u32],
+    marks: &mut [u32],
+) -> Message
+    ensures { λ r. ⌜ Counted r ⌝ }
+    ensures { λ r. ⌜ (saysNo (printed r) ≡ true → NoDraw (now (sheet .entry))) ⌝ }
+{
     let s = certificate::begin(sheet, text, store, index, marks);
     let t = read_certificate(s, store, index, marks);
-    say_verdict(certificate::finish(t));
+    let v = certificate::finish(t);
+    verdict::told(v)
 }
 
 // Of the lent memory only the length is told: the list of its zeros is too long for the prover to look at.
@@ -106,12 +107,15 @@ fn text_space() -> [u8; TEXT]
     [0; TEXT]
 }
 
-fn with_memory(sheet: &[u8]) {
+fn with_memory(sheet: &[u8]) -> Message
+    ensures { λ r. ⌜ Counted r ⌝ }
+    ensures { λ r. ⌜ (saysNo (printed r) ≡ true → NoDraw (now (sheet .entry))) ⌝ }
+{
     let mut text = text_space();
     let mut store = store_space();
     let mut index = number_space();
     let mut marks = literal_space();
-    answer(sheet, &mut text, &mut store, &mut index, &mut marks);
+    answered(sheet, &mut text, &mut store, &mut index, &mut marks)
 }
 
 fn main() {
@@ -129,5 +133,5 @@ fn main() {
     let mut sheet_space = [0u8; Model::SHEET_BYTES + 1];
     let n = io::read_full(fd, &mut sheet_space);
     libc::close(fd);
-    with_memory(&sheet_space[..n]);
+    say(STDOUT_FILENO, with_memory(&sheet_space[..n]));
 }

@@ -4,7 +4,7 @@ use mathlib.Core.Bool.{Bool, true, false, cond}
 use mathlib.Core.List.{[]}
 use Prim.Native.Nat.{ℕ, _+_, _-_, _≤_, _<_}
 use native.Mathlib.Omega.{arith}
-use lib.ListN.{getD}
+use lib.ListN.{length, getD}
 use Rattle.model.specs.declared.Group.{Group}
 use Rattle.model.specs.Lists.{each}
 use Rattle.model.specs.Limits.{limits}
@@ -13,11 +13,12 @@ use Rattle.model.specs.Cnf.{openCount, counted, outputsOf}
 use Rattle.model.specs.Text.{clauseText}
 use Rattle.encoding_laws.specs.Division.{nodesOf}
 use Rattle.encoding_laws.proofs.Fixpoint.{SettledAmong}
+use Rattle.encoding_laws.proofs.Bounds.{mostBytes}
 use Rattle.numbering.specs.declared.Totalizer.{Totalizer}
 use Rattle.numbering.specs.Numbering.{totalizerOf}
 use Rattle.numbering.proofs.Totalizers.{totalizer-parts, some-outputs}
 use Rattle.counts.proofs.Groups.{low-few, high-few}
-use Rattle.cnf.specs.Parts.{groupBlockText, Among}
+use Rattle.cnf.specs.Parts.{treeText, NoLonger, groupBlockText, NoneLonger, Among}
 
 pub nodes-few : (g : Group) → nodesOf g ≤ openCount g
 unfolding nodesOf
@@ -51,3 +52,17 @@ module _ (g : Group) (r : Totalizer) (e : r ≡ totalizerOf g) where
   pub block-text : (v o k : ℕ) → each clauseText (getD (totalizerBlocks (r .size) v o (r .low) (r .high)) k []) ≡ groupBlockText g v o k
   unfolding groupBlockText
   block-text v o k = let p = totalizer-parts g r e in rw (p .0, p .1, p .2)
+
+  pub tree-text : (v o k : ℕ) → treeText (r .size) v o (r .low) (r .high) k ≡ groupBlockText g v o k
+  unfolding treeText
+  tree-text v o k = block-text v o k
+
+  -- it has a block for each node
+  pub nodes-are : (k : ℕ) → k < nodesOf g → nodesOf g ≡ r .size - 1
+  unfolding nodesOf
+  nodes-are k l = let p = totalizer-parts g r e in rw (has-node g k l .0, p .0)
+
+  pub tree-longer : (most v o k : ℕ) → k < nodesOf g → most ≡ mostBytes (r .size) → NoneLonger (mostBytes (openCount g)) g v o → NoLonger most (r .size) v o (r .low) (r .high)
+  tree-longer most v o k l q h i t =
+      let p = totalizer-parts g r e in
+      omega (arith, ap length (tree-text v o i), h i (omega (arith, nodes-are k l)), q, ap mostBytes (p .0))

@@ -1,6 +1,8 @@
+pub mod Fits
 pub mod Numbers
 pub mod Nodes
 pub mod Trees
+pub mod Subtrees
 pub mod Groups
 pub mod Constraints
 pub mod Settled

@@ -32,7 +32,7 @@ use Rattle.numbering.proofs.Arrays.{next-take}
 use Rattle.numbering.proofs.Models.{first-is, outputs-are, differences-are, variable-from, output-from, difference-from}
 use Rattle.counts.proofs.Settled.{groups-settled, groups-few, constraints-few}
 use Rattle.blocks.specs.Blocks.{firstBlocks}
-use Rattle.cnf.specs.Parts.{groupBlockText, Among}
+use Rattle.cnf.specs.Parts.{groupBlockText, NoneLonger, Among}
 use Rattle.cnf.proofs.Groups.{nodes-few, has-node}
 
 -- ---- the blocks
@@ -218,11 +218,26 @@ module _ (m : Model) (q : Settled m) where
         pub here-among : Among (getD (v .first) i 0) (openCount here) × Among (getD (v .outputs) i 0) (outputsOf here)
         here-among = rw (v-is, o-is, group-is m q i h) (group-among m q i h)
 
-        pub here-text : groupBlockText here (getD (v .first) i 0) (getD (v .outputs) i 0) (b - getD first i 0) ≡ blockText m b
-        here-text = rw (v-is, o-is, group-is m q i h) (group-text m q i h (b - getD first i 0) node-there ∙ ap (blockText m) block-is)
+        -- and of the others of that group
+        pub here-texts : (j : ℕ) → getD first i 0 ≤ j → j < getD first i 0 + nodesOf here
+            → groupBlockText here (getD (v .first) i 0) (getD (v .outputs) i 0) (j - getD first i 0) ≡ blockText m j
+        here-texts j l k =
+            let n : j - getD first i 0 < nodesOf (groupAt table′ (1 + i)) = omega (arith, ap nodesOf (group-is m q i h)) in
+            let is : firstBlock table′ (1 + i) + (j - getD first i 0) ≡ j = omega (arith, first-at i few) in
+            rw (v-is, o-is, group-is m q i h) (group-text m q i h (j - getD first i 0) n ∙ ap (blockText m) is)
 
-        pub here-most : length (groupBlockText here (getD (v .first) i 0) (getD (v .outputs) i 0) (b - getD first i 0)) ≤ mostBytes (openCount here)
-        here-most = rw (v-is, o-is, group-is m q i h) (group-most m q i h (b - getD first i 0) node-there)
+        pub here-longer : NoneLonger (mostBytes (openCount here)) here (getD (v .first) i 0) (getD (v .outputs) i 0)
+        here-longer k l =
+            let n : k < nodesOf (groupAt table′ (1 + i)) = omega (arith, ap nodesOf (group-is m q i h)) in
+            rw (v-is, o-is, group-is m q i h) (group-most m q i h k n)
+
+        pub here-few : getD first i 0 + openCount here ≤ limits .variables
+        here-few =
+            let w = open-few (limits .entrants) here (here-settled .0) in
+            omega (arith, w, low, top, blocks-most, nodes-in)
+          where
+            nodes-in : length (nodeBlocks m) ≤ blockCount m
+            nodes-in = unfold blockCount in omega arith
 
   -- a line's block
   module _ (d : Constraint) (b : ℕ) (h : length (nodeBlocks m) < b) (k : b ≤ blockCount m) (lines : ℕ) (e : lines ≡ 1 + length (nodeBlocks m)) where

@@ -45,6 +45,17 @@ root-one m v o h = ap (λ (s : Shape). rootOutput s v o) (shape-one m (omega ari
 pub root-more : (m v o : ℕ) → 2 ≤ m → rootOutput (shape m) v o + m ≡ o + treeOutputCount m
 root-more m v o h = root-step m v o h ∙ ap (λ (k : ℕ). o + k) (outputs-count m)
 
+-- by the end of the tree's outputs
+pub root-by : (m v o end r : ℕ) → end ≡ o + treeOutputCount m → (m < 2 → r ≡ v) → (2 ≤ m → r + m ≡ end) → r ≡ rootOutput (shape m) v o
+root-by m v o end r e one more = go (decLt m 2)
+  where
+    go : Dec (m < 2) → r ≡ rootOutput (shape m) v o
+    go (yes h) = one h ∙ sym (root-one m v o h)
+    go (no h) = omega (arith, more (omega arith), root-more m v o (omega arith))
+
+pub root-room : (m v o end : ℕ) → end ≡ o + treeOutputCount m → 2 ≤ m → m ≤ end
+root-room m v o end e h = omega (arith, root-more m v o h)
+
 pub root-among : (m v o : ℕ) → 1 ≤ m → Among v m → Among o (treeOutputCount m) → Among (rootOutput (shape m) v o) m
 root-among (suc zero) v o h x y = omega (arith, root-one 1 v o (omega arith))
 root-among (suc (suc m)) v o h x y = omega (arith, root-more (suc (suc m)) v o (omega arith))
@@ -128,11 +139,3 @@ module _ (m v o L U k : ℕ) where
         ap length (sym root-text)
         ∙ length-append (nodeText (nodeAt m v o k) ++ each (unitText true first) (range 0 L)) (each (unitText false first) (range U (m - U)))
         ∙ ap (λ (n : ℕ). n + length (each (unitText false first) (range U (m - U)))) (length-append (nodeText (nodeAt m v o k)) (each (unitText true first) (range 0 L)))
-
-  -- the node's clauses come first
-  pub node-within : k + 2 ≤ m → length (nodeText (nodeAt m v o k)) ≤ length (each clauseText blockOf)
-  node-within h = go (decLt (k + 2) m)
-    where
-      go : Dec (k + 2 < m) → length (nodeText (nodeAt m v o k)) ≤ length (each clauseText blockOf)
-      go (yes l) = omega (arith, ap length (below-text l))
-      go (no l) = omega (arith, root-length (rootOutput (shape m) v o) refl (omega arith))

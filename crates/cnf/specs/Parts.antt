@@ -1,5 +1,5 @@
 -- The parts that the block writer's functions write, as texts of the definitions' clauses. Assumes nothing.
-use Prim.Native.Nat.{ℕ, suc, _+_, _≤_}
+use Prim.Native.Nat.{ℕ, suc, _+_, _≤_, _<_}
 use mathlib.Core.Bool.{Bool, true, false, cond}
 use mathlib.Core.List.{List, [], _∷_, map}
 use lib.Dec.{eqb}
@@ -16,6 +16,7 @@ use Rattle.model.specs.Clauses.{memberClauses}
 use Rattle.model.specs.Cnf.{openCount, atLeast, atMost}
 use Rattle.model.specs.Totalizer.{dropped, shape, nodes, unit, totalizerBlocks}
 use Rattle.model.specs.Text.{clauseText, blockText, blockRefusal}
+use Rattle.encoding_laws.specs.Division.{nodesOf}
 use Rattle.terms.specs.declared.Member.{Member}
 use Rattle.text.specs.Put.{keptText}
 use Rattle.terms.specs.Terms.{memberNumber, clauseTerms}
@@ -55,9 +56,21 @@ signed false v = Neg v
 unfoldable pub unitText : Bool → ℕ → ℕ → List ℕ
 unitText s first i = clauseText (unit (signed s) first i)
 
+-- block k of a tree of size m, its variables from v on and the outputs from o on, with the units of L and U in the root's
+unfoldable pub treeText : ℕ → ℕ → ℕ → ℕ → ℕ → ℕ → List ℕ
+treeText m v o L U k = each clauseText (getD (totalizerBlocks m v o L U) k [])
+
+-- none of its blocks has more bytes
+abbrev pub NoLonger : ℕ → ℕ → ℕ → ℕ → ℕ → ℕ → Type 0
+NoLonger most m v o L U = (k : ℕ) → k + 2 ≤ m → length (treeText m v o L U k) ≤ most
+
 -- block k of a group, its variables from v on and the outputs from o on
 unfoldable pub groupBlockText : Group → ℕ → ℕ → ℕ → List ℕ
 groupBlockText g v o k = each clauseText (getD (totalizerBlocks (openCount g) v o (atLeast g) (atMost g)) k [])
+
+-- none of its blocks has more bytes
+abbrev pub NoneLonger : ℕ → Group → ℕ → ℕ → Type 0
+NoneLonger most g v o = (k : ℕ) → k < nodesOf g → length (groupBlockText g v o k) ≤ most
 
 -- ---- a constraint
 

@@ -4,7 +4,7 @@ mod totalizer;
 ghost use mathlib.Core.Path.{_≡_};
 ghost use mathlib.Core.List.{map};
 ghost use lib.Dec.{T, leb};
-ghost use Prim.Native.Nat.{_+_, _*_, _≤_, _<_};
+ghost use Prim.Native.Nat.{_+_, _-_, _*_, _≤_, _<_};
 ghost use lib.ListN.{length, getD, take};
 ghost use Rattle.model.specs.declared.Literal.the-variants.{Pos};
 ghost use Rattle.model.specs.Lists.{each, range};
@@ -18,11 +18,12 @@ ghost use Rattle.model.proofs.Lists.{All};
 ghost use Rattle.encoding_laws.specs.Steps.{BySteps};
 ghost use Rattle.encoding_laws.proofs.Fixpoint.{SettledAmong};
 ghost use Rattle.model.specs.Text.{clauseText, headerText, blockRefusal, writtenBlock, writtenRefusal, writtenLength, blockBuffer};
+ghost use Rattle.correctness.specs.Entries.{Listed};
 ghost use Rattle.numbering.specs.Numbering.{firstVariables, numberingOf};
 ghost use Rattle.text.specs.Put.{Wrote};
 ghost use Rattle.terms.specs.Terms.{MembersBelow};
-ghost use Rattle.cnf.specs.Run.{runTo, bufferTo, runOf, runBuffer};
-ghost use Rattle.cnf.specs.Parts.{groupBlockText, entrantText, constraintText, blockLength, Among};
+ghost use Rattle.cnf.specs.Run.{Ran, runTo, bufferTo, runOf, runBuffer};
+ghost use Rattle.cnf.specs.Parts.{groupBlockText, entrantText, constraintText, blockLength, Among, NoneLonger};
 use model::Constraint;
 use model::Group;
 use model::Literal;
@@ -30,10 +31,8 @@ use model::Model;
 use model::Written;
 use numbering::Numbering;
 use terms::Member;
-use totalizer::node_at;
-use totalizer::put_node;
-use totalizer::put_units;
-use totalizer::root;
+use totalizer::least;
+use totalizer::put_tree;
 
 // ---- a group
 
@@ -55,21 +54,55 @@ fn group_of(first: &[u32; Model::GROUPS], s: usize, b: u32) -> usize
     low
 }
 
-// Block k of a group, from 0: the clauses of node k of its totalizer, and the units after the root's. Its variables start at v and the outputs at o.
-fn put_group_block(buf: &mut [u8], at: usize, g: Group, v: u32, o: u32, k: u32) -> usize
-    requires { ⌜ SettledAmong (limits .entrants) g × (k < nodesOf g) ⌝ }
+// A clause of three literals of five digits, each with its sign and its space, then `0` and byte 10.
+const CLAUSE_BYTES: usize = 23;
+
+// A tree of m leaves has no block of more than (m + 2)² / 2 + m clauses.
+fn most_bytes(m: u32) -> usize
+    requires { ⌜ m ≤ limits .word ⌝ }
+    ensures { λ r. ⌜ (r ≡ mostBytes m) × (r ≤ limits .block) ⌝ }
+{
+    let k = m as usize;
+    CLAUSE_BYTES * ((k + 2) * (k + 2) / 2 + k)
+}
+
+// Where a part of a group's blocks ends: the place after what is written, the first block that is not, and the first that was not asked for.
+struct Part {
+    at: usize,
+    next: u32,
+    end: u32,
+}
+
+// The blocks x .. end - 1 of a group, whose blocks are numbered from `first` on, while each fits. Its variables start at v and the outputs at o.
+fn put_group(
+    buf: &mut [u8],
+    at: usize,
+    x: u32,
+    end: u32,
+    first: u32,
+    g: Group,
+    v: u32,
+    o: u32,
+) -> Part
+    requires { ⌜ SettledAmong (limits .entrants) g × (first ≤ x) × (x - first < nodesOf g) ⌝ }
     requires { ⌜ Among v (openCount g) × Among o (outputsOf g) ⌝ }
-    requires { ⌜ at + length (groupBlockText g v o k) ≤ length (now buf) ⌝ }
-    ensures { λ r. ⌜ Wrote (groupBlockText g v o k) at (now (buf .entry)) (now (buf .exit)) r ⌝ }
+    requires { ⌜ (first + openCount g ≤ limits .variables) × (at ≤ length (now buf)) ⌝ }
+    requires { ⌜ NoneLonger (mostBytes (openCount g)) g v o ⌝ }
+    ensures { λ r. ⌜ r .end ≡ end - (end - (first + nodesOf g)) ⌝ }
+    ensures { λ r. ⌜ Ran (λ i. groupBlockText g v o (i - first)) (r .end - x) x at (now (buf .entry)) (now (buf .exit)) (r .next) (r .at) ⌝ }
 {
     let t = numbering::totalizer_of(g);
-    let x = put_node(buf, at, node_at(t.size, v, o, k));
-    if k + 2 < t.size {
-        return x;
+    let size = t.size;
+    let low = t.low;
+    let high = t.high;
+    let e = least(end, first + (size - 1));
+    let most = most_bytes(size);
+    let p = put_tree(buf, at, x, e, first, size, v, o, low, high, most);
+    Part {
+        at: p.at,
+        next: p.next,
+        end: e,
     }
-    let n = root(t.size, v, o);
-    let y = put_units(buf, x, true, n, 0, t.low);
-    put_units(buf, y, false, n, t.high, t.size - t.high)
 }
 
 // ---- a constraint
@@ -120,19 +153,29 @@ fn put_constraint(
     x
 }
 
-// The clause of the k variables from x on.
-fn put_rising(buf: &mut [u8], at: usize, x: u32, k: u32) -> usize
+// The clause of the k variables from x on, at the start of buf.
+fn write_rising(buf: &mut [u8], x: u32, k: u32) -> usize
     requires { ⌜ Among x k ⌝ }
-    requires { ⌜ at + length (clauseText (map Pos (range x k))) ≤ length (now buf) ⌝ }
-    ensures { λ r. ⌜ Wrote (clauseText (map Pos (range x k))) at (now (buf .entry)) (now (buf .exit)) r ⌝ }
+    requires { ⌜ length (clauseText (map Pos (range x k))) ≤ length (now buf) ⌝ }
+    ensures { λ r. ⌜ Wrote (clauseText (map Pos (range x k))) 0 (now (buf .entry)) (now (buf .exit)) r ⌝ }
 {
-    let mut n = at;
+    let mut n: usize = 0;
     let mut i = 0;
     while i < k {
         n = text::put_literal(buf, n, Literal::Pos(x + i));
         i += 1;
     }
     text::put_bytes(buf, n, b"0\n")
+}
+
+// The same in the part of buf from at on.
+fn put_rising(buf: &mut [u8], at: usize, x: u32, k: u32) -> usize
+    requires { ⌜ Among x k ⌝ }
+    requires { ⌜ at + length (clauseText (map Pos (range x k))) ≤ length (now buf) ⌝ }
+    ensures { λ r. ⌜ Wrote (clauseText (map Pos (range x k))) at (now (buf .entry)) (now (buf .exit)) r ⌝ }
+{
+    let n = write_rising(&mut buf[at..], x, k);
+    at + n
 }
 
 // The clauses of constraint c among the first s groups, whose X, if it has any, are numbered from x on.
@@ -184,27 +227,6 @@ fn put_header(buf: &mut [u8], at: usize, m: Model, v: Numbering) -> usize
 }
 
 // ---- what fits in `left` bytes: it is measured only where there may be no room
-
-// A clause of three literals of five digits, each with its sign and its space, then `0` and byte 10.
-const CLAUSE_BYTES: usize = 23;
-
-// Block k of a group. A tree of m leaves has no block of more than (m + 2)² / 2 + m clauses.
-fn group_block_fits(g: Group, v: u32, o: u32, k: u32, left: usize) -> bool
-    requires { ⌜ SettledAmong (limits .entrants) g × (k < nodesOf g) ⌝ }
-    requires { ⌜ Among v (openCount g) × Among o (outputsOf g) ⌝ }
-    requires { ⌜ length (groupBlockText g v o k) ≤ mostBytes (openCount g) ⌝ }
-    ensures { λ r. ⌜ r ≡ leb (length (groupBlockText g v o k)) left ⌝ }
-{
-    let t = numbering::totalizer_of(g);
-    let m = t.size as usize;
-    let most = CLAUSE_BYTES * ((m + 2) * (m + 2) / 2 + m);
-    if left < most {
-        let mut scratch = [0u8; Model::BLOCK_BYTES];
-        let n = put_group_block(&mut scratch, 0, g, v, o, k);
-        return n <= left;
-    }
-    true
-}
 
 // Block 0.
 fn header_fits(m: Model, v: Numbering, left: usize) -> bool
@@ -280,11 +302,10 @@ fn write_run(m: Model, b: u32, end: u32, buf: &mut [u8]) -> Run
             let i = group_of(&first, s, x);
             let g = groups[i];
             let o = v.outputs[i];
-            let k = x - first[i];
-            if group_block_fits(g, numbers[i], o, k, left) {
-                at = put_group_block(buf, at, g, numbers[i], o, k);
-                x += 1;
-            } else {
+            let p = put_group(buf, at, x, stop, first[i], g, numbers[i], o);
+            at = p.at;
+            x = p.next;
+            if x < p.end {
                 stop = x;
             }
         } else {
@@ -316,11 +337,13 @@ fn write_run(m: Model, b: u32, end: u32, buf: &mut [u8]) -> Run
 // ---- the entries
 
 // Block b in buf, from its start: refusals 20, 22, 23 and 24 in this order. 29 cannot occur after 22. A written block has at each node, p and q what the printed steps leave there.
+// It is a part of the listing of which demand 3 speaks: `Listed`.
 pub fn write_block(m: Model, b: u32, buf: &mut [u8]) -> Written
     ensures { λ r. ⌜ r ≡ writtenBlock m b (length (now (buf .entry))) ⌝ }
     ensures { λ r. ⌜ now (buf .exit) ≡ blockBuffer m b (now (buf .entry)) ⌝ }
     ensures { λ r. ⌜ (writtenRefusal r ≡ blockRefusal m b (length (now (buf .entry)))) × (writtenLength r ≡ blockLength m b (length (now (buf .entry)))) ⌝ }
     ensures { λ r. ⌜ (writtenRefusal r ≡ 0 → BySteps m b (now (buf .exit))) ⌝ }
+    ensures { λ r. ⌜ (writtenRefusal r ≡ 0 → Listed m b (writtenLength r) (now (buf .exit))) ⌝ }
 {
     let refusal = blocks::judged(m, b);
     if refusal != 0 {

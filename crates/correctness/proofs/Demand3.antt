@@ -5,19 +5,22 @@ use mathlib.Core.Logic.{_⊎_}
 use Prim.Native.Nat.{ℕ, suc, _+_, _*_, _≤_}
 use native.Mathlib.Omega.{arith}
 use mathlib.Core.Bool.{Bool, true, false, not, _&&_}
-use mathlib.Core.List.{List, List·Permᴰ, Permᴰ·symm}
-use borrow.Author.Tests.{eq-eqb, le-ltb}
+use mathlib.Core.List.{List, _++_, List·Permᴰ, Permᴰ·symm}
+use borrow.Author.Tests.{eq-eqb, eqb-false, le-ltb}
 use lib.Dec.{T, leb, eqb, le→leb}
-use lib.ListN.{length, take, length-take}
+use lib.ListN.{length, take, drop, length-take}
+use lib.Seq.{take-append-seam}
 use Rattle.model.specs.declared.Literal.{Literal}
 use Rattle.model.specs.declared.Group.{Group}
 use Rattle.model.specs.declared.Model.{Model}
+use Rattle.model.specs.declared.Written.{Written}
+use Rattle.model.specs.declared.Written.the-variants.{Bytes, Refused}
 use Rattle.model.specs.Lists.{every, pairwise, between, stop}
 use Rattle.model.specs.Limits.{limits}
 use Rattle.model.specs.Model.{tableOf, constraintsOf, membersSized}
 use Rattle.model.specs.Propagate.{propagated, consistent, Settled}
 use Rattle.model.specs.Cnf.{variableCount, blockCount, clauses}
-use Rattle.model.specs.Text.{blockText, hasEmptyClause, blockRefusal}
+use Rattle.model.specs.Text.{blockText, hasEmptyClause, blockRefusal, writtenBlock, blockBuffer, writtenRefusal, writtenLength}
 use Rattle.model.specs.Assignment.{nothingSaid, variable, isSaid, lineRead}
 use Rattle.model.specs.Close.{satisfying, groupsBy, closedGroups, assignmentOf, closeRefusal, closed}
 use Rattle.model.specs.Solution.{allowed, constraintTrue, isSolution}
@@ -33,7 +36,8 @@ use Rattle.encoding_laws.proofs.Nonempty.{no-empty-clause}
 use Rattle.encoding_laws.proofs.Text.{header-reads, listing-reads}
 use Rattle.encoding_laws.proofs.Whole.{OneForOne, one-for-one}
 use Rattle.correctness.specs.Demand3.{Settling, Listing, Matching, saidAfter, closedAfter, Answer, ReadingBack, Demand3}
-use Rattle.correctness.proofs.Reading.{Matches, refusal-same, reading-matches, fresh-matches, says-size, values-say, said-all, said-assignment}
+use Rattle.correctness.specs.Entries.{Matches, Listed}
+use Rattle.correctness.proofs.Reading.{refusal-same, reading-matches, fresh-matches, says-size, values-say, said-all, said-assignment}
 
 -- ---- reading back, for any settled model in range
 
@@ -105,7 +109,7 @@ between-all v cs h =
     (all-imp (In 1 (suc v)) (λ l. T (between 1 v (variable l))) (λ l r. and-both (leb 1 (variable l)) (leb (variable l) v) (le→leb 1 (variable l) (r .0)) (le→leb (variable l) v (omega (arith, r .1)))) c k))
     cs h)
 
-listed : (q : Model) → Settled q → Listing q
+pub listed : (q : Model) → Settled q → Listing q
 unfolding blockRefusal
 listed q s = record {
   written = λ k h.
@@ -121,6 +125,24 @@ listed q s = record {
   few = variables-bound q s;
   variables = between-all (variableCount q) (clauses q) (variables-in q s);
 }
+
+-- as `write_block` promises it: of a block that was written, in a buffer as it is afterwards
+pub written-listed : (m : Model) → Settled m → (b : ℕ) (before after : List ℕ) (w : Written) → w ≡ writtenBlock m b (length before) → after ≡ blockBuffer m b before
+    → writtenRefusal w ≡ 0 → Listed m b (writtenLength w) after
+unfolding writtenBlock blockBuffer
+written-listed m s b before after w ew ea z = go (eqb (blockRefusal m b (length before)) 0) refl
+  where
+    go : (t : Bool) → eqb (blockRefusal m b (length before)) 0 ≡ t → Listed m b (writtenLength w) after
+    go true t =
+        let k : w ≡ Bytes (length (blockText m b)) = ew ∙ rw t in
+        let kept : after ≡ blockText m b ++ drop (length (blockText m b)) before = ea ∙ rw t in
+        record {
+          text = ap₂ (λ (n : ℕ) (l : List ℕ). take n l) (ap writtenLength k) kept ∙ take-append-seam (blockText m b) (drop (length (blockText m b)) before);
+          listing = listed m s;
+        }
+    go false t =
+        let k : w ≡ Refused (blockRefusal m b (length before)) = ew ∙ rw t in
+        absurd (eqb-false (blockRefusal m b (length before)) 0 t (sym (ap writtenRefusal k) ∙ z))
 
 -- ---- an order has the sheet's solutions
 

@@ -10,6 +10,7 @@ use lib.Seq.{take-at}
 use borrow.Author.Tests.{eq-eqb}
 use Rattle.model.specs.declared.Model.{Model}
 use Rattle.model.specs.declared.Reading.{Reading}
+use Rattle.model.specs.declared.Closed.{Closed}
 use Rattle.model.specs.Lists.{every, stop}
 use Rattle.model.specs.Limits.{limits}
 use Rattle.model.specs.Model.{constraintsOf, constraintSized, membersSized, Whole, inRange}
@@ -25,6 +26,7 @@ use Rattle.model.proofs.Refusals.{settled-rest, unsettled-other}
 use Rattle.propagation_laws.proofs.Ranges.{in-range}
 use Rattle.encoding_laws.proofs.Values.{values-count, values-said, values-assign, assigned-values}
 use Rattle.encoding_laws.proofs.Whole.{one-for-one, filled-length, filled-groups, filled-satisfying}
+use Rattle.correctness.specs.Entries.{Drawn}
 use Rattle.correctness.specs.Filling.{closedReading, Filled, Refilled, RoundTrips}
 
 -- ---- what a call that is not refused has
@@ -219,3 +221,20 @@ module _ (m : Model) (z : Whole m) where
 
   pub round-trips : RoundTrips m
   round-trips = record { fills = filled; none = no-other; refills = refilled }
+
+  -- as `close` promises it
+  pub closed-drawn : (r : Reading) (values : List ℕ) (a : Closed) → a ≡ closed m r values → a .refusal ≡ 0 → Drawn m a
+  unfolding closed
+  closed-drawn r values a e z =
+      let c : Closes r values = closes-when r values (ap (λ (x : Closed). x .refusal) (sym e) ∙ z) in
+      let b = assignmentOf values in
+      let t = is-satisfying values (c .sized) (c .satisfies) in
+      let g : a .groups ≡ closedGroups m b = ap (λ (x : Closed). x .groups) (e ∙ when-closes r values c) in
+      let own : take (m .s) (a .groups) ≡ groupsBy m b = ap (take (m .s)) g ∙ own-groups b in
+      record {
+        assignment = b;
+        satisfying = t;
+        groups = g;
+        draw = subst (λ (x : List ℕ). T (isSolution m x)) (sym own) (one-for-one m (c .settled) w .sound b t);
+        alone = λ d u q. one-for-one m (c .settled) w .alone d b u t (q ∙ own);
+      }

@@ -15,6 +15,7 @@ use Rattle.model.specs.declared.Literal.{Literal}
 use Rattle.model.specs.declared.Literal.the-variants.{Pos, Neg}
 use Rattle.model.specs.declared.Model.{Model}
 use Rattle.model.specs.declared.Reading.{Reading}
+use Rattle.model.specs.declared.LineRead.{LineRead}
 use Rattle.model.specs.Lists.{every, any, range, stop}
 use Rattle.model.specs.Cnf.{variableCount}
 use Rattle.model.specs.Assignment.{Said, nothingSaid, formOf, isSaid, variable, valueFor, withValue, literalsRefusal, withValues, saidRefusal, isPassedOver, callRefusal, isTaken, saidBy, lineRead, valuesAfter}
@@ -22,14 +23,9 @@ use Rattle.model.specs.Close.{truth, literalTrue, assignmentOf}
 use Rattle.model.specs.Demand.{names, offence, formOffence, refusalAfter, sayLine, sayLines, says, freshReading, isFresh, readingAfter, valuesAfterAll}
 use Rattle.model.proofs.Solver.{Named, form-named}
 use Rattle.model.proofs.Lists.{T-true, T-false, true-T, and-left, and-right, and-both, or-false, every-getD, All, all-append, all-imp, any-append, every-range, range-every, getD-map-in}
+use Rattle.correctness.specs.Entries.{Holds, Matches, LineReads}
 
 -- ---- what values hold, and what was said
-
--- the values hold exactly what the literals say, of v variables
-pub record Holds (v : ℕ) (said : List Literal) (values : List ℕ) : Type 0 where
-  pub size : length values ≡ v
-  pub held : All (λ l. (variable l ≤ v) × (1 ≤ variable l) × (getD values (variable l - 1) 0 ≡ valueFor l)) said
-  pub only : (i : ℕ) → i < v → isSaid (getD values i 0) ≡ any (λ k. eqb (variable k) (suc i)) said
 
 said-value : (l : Literal) → isSaid (valueFor l) ≡ true
 unfolding isSaid
@@ -119,11 +115,6 @@ agrees v (l ∷ ls) said values h n =
         }
 
 -- ---- a line
-
--- the state after some lines is what they say
-pub record Matches (v : ℕ) (s : Said) (r : Reading) (values : List ℕ) : Type 0 where
-  pub closed : r .closed ≡ s .closed
-  pub holds : Holds v (s .literals) values
 
 form-same : (v : ℕ) (said : List Literal) (values : List ℕ) → Holds v said values → (line : List ℕ)
     → saidRefusal (formOf line) values ≡ formOffence v said (formOf line)
@@ -298,3 +289,18 @@ module _ (v : ℕ) (said : List Literal) (values : List ℕ) (h : Holds v said v
     said-assignment =
         ext-getD false a (assignmentOf values) (says-length ∙ sym (length-map values (λ b. eqb b 1) ∙ h .size))
         (λ i l. at-place i (omega (arith, says-length)) .0 ∙ sym (truth-at i (omega (arith, says-length))))
+
+-- ---- as `read_line` promises it
+
+pub line-reads : (r : Reading) (line values : List ℕ) (a : LineRead) (after : List ℕ) → (a ≡ lineRead r line values) × (after ≡ valuesAfter r line values)
+    → (a ≡ lineRead r line values) × ((after ≡ valuesAfter r line values) × LineReads r line values a after)
+unfolding lineRead
+line-reads r line values a after e = (e .0, (e .1, record { judged = judged′; leaves = leaves′ }))
+  where
+    judged′ : (v : ℕ) (said : Said) → Matches v said r values → a .refusal ≡ refusalAfter v said line
+    judged′ v said h = ap (λ (x : LineRead). x .refusal) (e .0) ∙ refusal-same v said r values h line
+
+    leaves′ : (v : ℕ) (said : Said) → Matches v said r values → Matches v (sayLine v said line) (a .reading) after
+    leaves′ v said h =
+        subst (λ (x : LineRead). Matches v (sayLine v said line) (x .reading) after) (sym (e .0))
+        (subst (λ (x : List ℕ). Matches v (sayLine v said line) (lineRead r line values .reading) x) (sym (e .1)) (line-next v said r values h line))

@@ -50,7 +50,7 @@ pub record Listing (q : Model) : Type 0 where
   pub reads : readDimacs (listing q) ≡ some (record { variables = variableCount q; clauseCount = clauseCount q; clauses = clauses q })
   -- exactly C of them
   pub count : length (clauses q) ≡ clauseCount q
-  -- "V at most 59,392"
+  -- "V is at most 59,392, code 7 lines included"
   pub few : variableCount q ≤ limits .variables
   -- no variable below 1 or above V
   pub variables : T (every (every (λ l. between 1 (variableCount q) (variable l))) (clauses q))

@@ -1,23 +1,62 @@
--- The table of a tree's clauses. Assumes nothing.
-use mathlib.Core.Path.{_≡_}
-use mathlib.Core.List.{List, [], _∷_}
-use Prim.Native.Nat.{ℕ, suc, _≤_, _<_}
+-- How many clauses a tree has, by halves. Assumes nothing.
+use mathlib.Core.Path.{_≡_, refl}
+use Prim.Native.Nat.{ℕ, zero, suc, _+_, _-_, _*_, _/_, _≤_, _<_}
+use native.Mathlib.Nat.{mul-le-mul}
 use native.Mathlib.Omega.{arith}
-use lib.Dec.{T, eqb, eqb→eq}
-use lib.ListN.{getD}
 use Rattle.model.specs.Limits.{limits}
-use Rattle.model.specs.Lists.{range, every}
 use Rattle.model.specs.Totalizer.{clauseCountIn, treeClauseCount}
-use Rattle.model.proofs.Lists.{every-range}
+use Rattle.encoding_laws.proofs.Counts.{clause-count-step}
+use Rattle.encoding_laws.proofs.Bounds.{clauses-mono}
 
--- a table that was computed agrees with a function at each place
-table-is : (f : ℕ → ℕ) (table : List ℕ) (m n : ℕ) → T (every (λ k. eqb (getD table k 0) (f k)) (range 0 n)) → m < n → getD table m 0 ≡ f m
-table-is f table m n t h = eqb→eq (getD table m 0) (f m) (every-range (λ k. eqb (getD table k 0) (f k)) 0 n t m (omega arith) (omega arith))
+-- ---- a node's
 
-abbrev clauseTable : List ℕ
-clauseTable =
-    0 ∷ 0 ∷ 6 ∷ 16 ∷ 28 ∷ 44 ∷ 62 ∷ 82 ∷ 104 ∷ 130 ∷ 158 ∷ 188 ∷ 220 ∷ 254 ∷ 290 ∷ 328 ∷ 368 ∷ 412 ∷ 458 ∷ 506 ∷ 556 ∷ 608 ∷ 662 ∷ 718 ∷ 776 ∷ 836 ∷ 898 ∷ 962 ∷ 1028 ∷ 1096 ∷ 1166 ∷ 1238 ∷ 1312 ∷ 1390 ∷ 1470 ∷ 1552 ∷ 1636 ∷ 1722 ∷ 1810 ∷ 1900 ∷ 1992 ∷ 2086 ∷ 2182 ∷ 2280 ∷ 2380 ∷ 2482 ∷ 2586 ∷ 2692 ∷ 2800 ∷ 2910 ∷ 3022 ∷ 3136 ∷ 3252 ∷ 3370 ∷ 3490 ∷ 3612 ∷ 3736 ∷ 3862 ∷ 3990 ∷ 4120 ∷ 4252 ∷ 4386 ∷ 4522 ∷ 4660 ∷ 4800 ∷ []
+pub node-some : (a b : ℕ) → 1 ≤ (a + 1) * (b + 1)
+node-some a b =
+    let p : 1 ≤ a + 1 = omega arith in
+    let q : 1 ≤ b + 1 = omega arith in
+    let h : 1 * 1 ≤ (a + 1) * (b + 1) = mul-le-mul p q in
+    omega (arith, h)
 
-pub clause-table : (m : ℕ) → m ≤ limits .word → getD clauseTable m 0 ≡ treeClauseCount m
+pub node-few : (a b : ℕ) → a ≤ limits .word → b ≤ limits .word → (a + 1) * (b + 1) ≤ 5000
+node-few a b p q =
+    let i : a + 1 ≤ limits .word + 1 = omega arith in
+    let j : b + 1 ≤ limits .word + 1 = omega arith in
+    let h : (a + 1) * (b + 1) ≤ (limits .word + 1) * (limits .word + 1) = mul-le-mul i j in
+    omega (arith, h)
+
+-- ---- a tree's
+
+-- a leaf, and two
+pub clauses-first : (m : ℕ) → m < 2 → (0 ≡ treeClauseCount m) × (6 * m ≡ treeClauseCount (m + 1))
 unfolding treeClauseCount clauseCountIn
-clause-table m h = table-is treeClauseCount clauseTable m (suc (limits .word)) tt (omega arith)
+clauses-first zero h = (refl, refl)
+clauses-first (suc zero) h = (refl, refl)
+clauses-first (suc (suc m)) h = absurd (omega arith)
+
+-- the step, of halves by their names
+halves : (n a b : ℕ) → 2 ≤ n → n / 2 ≡ a → n - n / 2 ≡ b → treeClauseCount n ≡ treeClauseCount a + treeClauseCount b + (2 * ((a + 1) * (b + 1)) - 2)
+halves n a b h p q = rw (← q, ← p) (omega (arith, clause-count-step n h, node-some (n / 2) (n - n / 2)))
+
+-- the halves of m and of m + 1: x and y are counted of m / 2 and of one more, p of the node over both
+module _ (m : ℕ) (h : 2 ≤ m) {x y p q : ℕ} (ex : x ≡ treeClauseCount (m / 2)) (ey : y ≡ treeClauseCount (m / 2 + 1))
+    (ep : p ≡ 2 * ((m / 2 + 1) * (m / 2 + 1 + 1)) - 2) where
+  pub clauses-even : m ≤ m / 2 + m / 2 → q ≡ 2 * ((m / 2 + 1) * (m / 2 + 1)) - 2
+      → (x + x + q ≡ treeClauseCount m) × (x + y + p ≡ treeClauseCount (m + 1))
+  clauses-even k e = (
+    omega (arith, halves m (m / 2) (m / 2) h refl (omega arith)),
+    omega (arith, halves (m + 1) (m / 2) (m / 2 + 1) (omega arith) (omega arith) (omega arith)),
+  )
+
+  pub clauses-odd : m / 2 + m / 2 < m → q ≡ 2 * ((m / 2 + 1 + 1) * (m / 2 + 1 + 1)) - 2
+      → (x + y + p ≡ treeClauseCount m) × (y + y + q ≡ treeClauseCount (m + 1))
+  clauses-odd k e = (
+    omega (arith, halves m (m / 2) (m / 2 + 1) h refl (omega arith)),
+    omega (arith, halves (m + 1) (m / 2 + 1) (m / 2 + 1) (omega arith) (omega arith) (omega arith)),
+  )
+
+-- and they are few
+pub clauses-few-more : (m : ℕ) → m ≤ limits .word → (treeClauseCount m ≤ 5000) × (treeClauseCount (m + 1) ≤ 5000)
+clauses-few-more m h = (omega (arith, clauses-mono m (suc (limits .word)) (omega arith), most), omega (arith, clauses-mono (m + 1) (suc (limits .word)) (omega arith), most))
+  where
+    most : treeClauseCount (suc (limits .word)) ≤ 5000
+    most = unfold treeClauseCount clauseCountIn in omega arith

@@ -1,6 +1,6 @@
 // How many clauses the listing of a model has: C of its first line.
 ghost use mathlib.Core.Path.{_≡_};
-ghost use Prim.Native.Nat.{_+_, _*_, _≤_};
+ghost use Prim.Native.Nat.{_+_, _-_, _*_, _≤_};
 ghost use lib.Dec.{T};
 ghost use lib.ListN.{length, take};
 ghost use Rattle.model.specs.Lists.{every, total};
@@ -22,80 +22,54 @@ use terms::Member;
 
 // ---- groups
 
-// "Tree clauses T(1) = 0, T(m) = T(left) + T(right) + 2(a+1)(b+1) - 2", for every size of a word's set.
-const CLAUSES: [u32; Model::WORD as usize + 1] = [
-    0,
-    0,
-    6,
-    16,
-    28,
-    44,
-    62,
-    82,
-    104,
-    130,
-    158,
-    188,
-    220,
-    254,
-    290,
-    328,
-    368,
-    412,
-    458,
-    506,
-    556,
-    608,
-    662,
-    718,
-    776,
-    836,
-    898,
-    962,
-    1028,
-    1096,
-    1166,
-    1238,
-    1312,
-    1390,
-    1470,
-    1552,
-    1636,
-    1722,
-    1810,
-    1900,
-    1992,
-    2086,
-    2182,
-    2280,
-    2380,
-    2482,
-    2586,
-    2692,
-    2800,
-    2910,
-    3022,
-    3136,
-    3252,
-    3370,
-    3490,
-    3612,
-    3736,
-    3862,
-    3990,
-    4120,
-    4252,
-    4386,
-    4522,
-    4660,
-    4800,
-];
+// How many clauses a tree has, and one of a leaf more.
+struct Clauses {
+    own: u32,
+    more: u32,
+}
+
+// "2(a+1)(b+1) - 2": the clauses of a node over halves of sizes a and b.
+fn node_count(a: u32, b: u32) -> u32
+    requires { ⌜ (a ≤ limits .word) × (b ≤ limits .word) ⌝ }
+    ensures { λ r. ⌜ (r ≡ 2 * ((a + 1) * (b + 1)) - 2) × (r ≤ limits .block) ⌝ }
+{
+    2 * ((a + 1) * (b + 1)) - 2
+}
+
+// "Tree clauses T(1) = 0, T(m) = T(left) + T(right) + 2(a+1)(b+1) - 2", of sizes m and m + 1 at once: their halves are of m / 2 and of one more.
+fn clauses_by_halves(m: u32) -> Clauses
+    requires { ⌜ m ≤ limits .word ⌝ }
+    ensures { λ r. ⌜ (r .own ≡ treeClauseCount m) × (r .more ≡ treeClauseCount (m + 1)) ⌝ }
+{
+    if m < 2 {
+        return Clauses {
+            own: 0,
+            more: 6 * m,
+        };
+    }
+    let a = m / 2;
+    let h = clauses_by_halves(a);
+    let x = h.own;
+    let y = h.more;
+    let mixed = x + y + node_count(a, a + 1);
+    if a + a < m {
+        return Clauses {
+            own: mixed,
+            more: y + y + node_count(a + 1, a + 1),
+        };
+    }
+    Clauses {
+        own: x + x + node_count(a, a),
+        more: mixed,
+    }
+}
 
 fn tree_count(m: u32) -> u32
     requires { ⌜ m ≤ limits .word ⌝ }
     ensures { λ r. ⌜ r ≡ treeClauseCount m ⌝ }
 {
-    CLAUSES[m as usize]
+    let h = clauses_by_halves(m);
+    h.own
 }
 
 // How many clauses a group's totalizer has: no more than a block has bytes.

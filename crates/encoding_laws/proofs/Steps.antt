@@ -7,7 +7,7 @@ use native.Mathlib.Nat.{zero-add, le-refl}
 use native.Mathlib.Omega.{arith}
 use native.Mathlib.Decide.{decLe}
 use borrow.Author.Tests.{ne-eqb}
-use lib.Dec.{eqb}
+use lib.Dec.{T, eqb}
 use lib.ListN.{length, getD, take, drop}
 use lib.Seq.{take-at, drop-at}
 use Rattle.model.specs.declared.Literal.{Literal}
@@ -20,7 +20,7 @@ use Rattle.model.specs.Totalizer.{dropped, rowClauses, nodeClauses, Shape, leaf
 use Rattle.model.specs.Cnf.{openCount, atLeast, atMost, counted, firstVariable, firstOutput, groupBlocks, nodeBlocks}
 use Rattle.model.specs.Text.{clauseText, blockText}
 use Rattle.model.proofs.Lists.{each-append, range-append, All, all-both, all-imp}
-use Rattle.encoding_laws.specs.Steps.{groupNodes, blockNodes, NodeOf, earlier, placeOf, BySteps}
+use Rattle.encoding_laws.specs.Steps.{groupNodes, blockNodes, NodeOf, Rooted, earlier, placeOf, BySteps}
 use Rattle.encoding_laws.proofs.Totalizer.{shapeIn-step, shapeIn-one, leaves-shapeIn, leaves-shape, shape-step}
 use Rattle.encoding_laws.proofs.Blocks.{node-block}
 
@@ -59,14 +59,19 @@ unfolding shape
 tree-nodes m v o = nodes-in m m v o (le-refl m)
 
 -- a tree has a node of its own size, the last one
-tree-root : (m v o : ℕ) → 2 ≤ m → (before : List Node) × (t : Node) × (nodes (shape m) v o ≡ before ++ (t ∷ [])) × (t .a + t .b ≡ m)
+tree-root : (m v o : ℕ) → 2 ≤ m → Rooted m (nodes (shape m) v o)
 unfolding nodes
 tree-root m v o h =
     let x = shape (m / 2) in
     let y = shape (m - m / 2) in
     let ex : leaves x ≡ m / 2 = leaves-shape (m / 2) (omega arith) in
     let ey : leaves y ≡ m - m / 2 = leaves-shape (m - m / 2) (omega arith) in
-    (nodes x v o ++ nodes y (v + leaves x) (o + outputs x), nodeOver x y v o, ap (λ (s : Shape). nodes s v o) (shape-step m h), omega arith)
+    record {
+      before = nodes x v o ++ nodes y (v + leaves x) (o + outputs x);
+      root = nodeOver x y v o;
+      last = ap (λ (s : Shape). nodes s v o) (shape-step m h);
+      whole = omega arith;
+    }
 
 -- ---- a node's clauses, divided at p and q
 
@@ -173,6 +178,18 @@ module _ (m : Model) where
       go true = tree-nodes (openCount r) (firstVariable (tableOf m) g) (firstOutput (tableOf m) g)
       go false = tt
 
+  group-root : (g : ℕ) → T (counted (groupAt (tableOf m) g)) → 2 ≤ openCount (groupAt (tableOf m) g)
+      → Rooted (openCount (groupAt (tableOf m) g)) (groupNodes (tableOf m) g)
+  unfolding groupNodes
+  group-root g is two = go (counted r) is
+    where
+      r : Group
+      r = groupAt (tableOf m) g
+
+      go : (b : Bool) → T b → Rooted (openCount r) (cond b (nodes (shape (openCount r)) (firstVariable (tableOf m) g) (firstOutput (tableOf m) g)) [])
+      go true t = tree-root (openCount r) (firstVariable (tableOf m) g) (firstOutput (tableOf m) g) two
+      go false t = absurd t
+
   block-text : (b : ℕ) → 1 ≤ b → b ≤ length (nodeBlocks m) → blockText m b ≡ each clauseText (getD (nodeBlocks m) (b - 1) [])
   unfolding blockText
   block-text b one top = let z : eqb b 0 ≡ false = ne-eqb b 0 (λ e. omega arith) in rw z (ap (each clauseText) (node-block m b top))
@@ -196,4 +213,4 @@ module _ (m : Model) where
 
   -- whatever stands after the block's text
   pub by-steps : (b : ℕ) (tail : List ℕ) → BySteps m b (blockText m b ++ tail)
-  by-steps b tail = record { sizes = group-sizes; written = block-written b tail }
+  by-steps b tail = record { sizes = group-sizes; rooted = group-root; written = block-written b tail }

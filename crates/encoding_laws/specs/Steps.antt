@@ -4,6 +4,7 @@ use Prim.Native.Nat.{ℕ, suc, _+_, _/_, _≤_}
 use mathlib.Core.Path.{_≡_}
 use mathlib.Core.Bool.{cond}
 use mathlib.Core.List.{List, [], _∷_, _++_}
+use lib.Dec.{T}
 use lib.ListN.{length, take, drop}
 use Rattle.model.specs.declared.Literal.{Literal}
 use Rattle.model.specs.declared.Node.{Node}
@@ -32,6 +33,13 @@ pub record NodeOf (m : ℕ) (t : Node) : Type 0 where
   pub most : t .a + t .b ≤ m
   pub half : t .a ≡ (t .a + t .b) / 2
 
+-- the nodes of a tree of size m: the last is of that size, "then the node itself"
+pub record Rooted (m : ℕ) (ns : List Node) : Type 0 where
+  pub before : List Node
+  pub root : Node
+  pub last : ns ≡ before ++ (root ∷ [])
+  pub whole : root .a + root .b ≡ m
+
 -- the node's clauses before those of p and q
 unfoldable pub earlier : Node → ℕ → ℕ → List (List Literal)
 earlier t p q = each (rowClauses t) (range 0 p) ++ each (dropped t p) (range 0 q)
@@ -43,6 +51,8 @@ placeOf t p q = length (each clauseText (earlier t p q))
 -- a buffer that holds block b from its start
 pub record BySteps (m : Model) (b : ℕ) (buf : List ℕ) : Type 0 where
   pub sizes : (g : ℕ) → All (NodeOf (openCount (groupAt (tableOf m) g))) (groupNodes (tableOf m) g)
+  pub rooted : (g : ℕ) → T (counted (groupAt (tableOf m) g)) → 2 ≤ openCount (groupAt (tableOf m) g)
+      → Rooted (openCount (groupAt (tableOf m) g)) (groupNodes (tableOf m) g)
   pub written : (before : List Node) (t : Node) (after : List Node) → blockNodes m ≡ before ++ (t ∷ after) → b ≡ suc (length before)
       → (p q : ℕ) → p ≤ t .a → q ≤ t .b
       → take (length (each clauseText (dropped t p q))) (drop (placeOf t p q) buf) ≡ each clauseText (dropped t p q)

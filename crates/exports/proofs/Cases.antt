@@ -22,11 +22,9 @@ use Rattle.model.specs.Close.{closed}
 use Rattle.model.specs.Fill.{fillRefusal, filledValues}
 use Rattle.model.proofs.Lists.{T-true, true-T}
 use Rattle.propagation_laws.proofs.Ranges.{in-range}
-use Rattle.propagation_laws.proofs.Sheets.{sheet-propagation}
-use Rattle.certificate.proofs.Answer.{accepted-of}
+use Rattle.propagation_laws.proofs.Sheets.{accepted-of, sheet-propagation}
 use Rattle.cnf.specs.declared.Run.{Run}
 use Rattle.cnf.specs.Run.{runOf, runBuffer}
-use Rattle.words.specs.Words.{setsFrom}
 use Rattle.packing.specs.Packing.{numbered, writtenNumber, runNumber, noGroups, hasRoom, groupsLaid}
 use Rattle.exports.specs.Draw.{settledSheet, fitted, settleNumber, tableAfter, sheetBlock, drawBlock, drawBuffer, drawBlockCount, sheetRun, drawBlocks, drawRun, readingOf, closedSheet, drawFill, drawValues}
 
@@ -158,11 +156,11 @@ module _ (b : List ℕ) (p : Propagated) (e : p ≡ settledSheet b) where
     unfolding drawRun
     run-laid block buffer = rw (← e, z)
 
-    pub filling-judged : (groups values : List ℕ) → fillRefusal (p .model) (setsFrom groups) values ≡ drawFill b groups values
+    pub filling-judged : (groups values : List ℕ) → fillRefusal (p .model) groups values ≡ drawFill b groups values
     unfolding drawFill
     filling-judged groups values = rw (← e, z)
 
-    pub values-filled : (groups values : List ℕ) → filledValues (p .model) (setsFrom groups) values ≡ drawValues b groups values
+    pub values-filled : (groups values : List ℕ) → filledValues (p .model) groups values ≡ drawValues b groups values
     unfolding drawValues
     values-filled groups values = rw (← e, z)
 

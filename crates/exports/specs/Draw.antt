@@ -23,7 +23,7 @@ use Rattle.model.specs.Fill.{fillRefusal, filledValues}
 use Rattle.model.specs.Combine.{combined}
 use Rattle.cnf.specs.declared.Run.{Run}
 use Rattle.cnf.specs.Run.{runOf, runBuffer}
-use Rattle.words.specs.Words.{setsFrom, modelFrom}
+use Rattle.words.specs.Words.{modelFrom}
 use Rattle.packing.specs.Packing.{numbered, writtenNumber, runNumber, lineNumber, groupWords, modelSize, modelLaid, noGroups, fittedClosing, groupsAfter}
 
 -- ---- reading
@@ -140,17 +140,17 @@ modelClose words flag values room = fittedClosing room (closed (modelFrom words)
 unfoldable pub modelGroups : List ℕ → ℕ → List ℕ → List ℕ → List ℕ
 modelGroups words flag values groups = groupsAfter (fittedClosing (length groups) (closed (modelFrom words) (readingOf flag) values)) groups
 
--- ---- filling on the settled sheet
+-- ---- filling on the settled sheet, from as many words as are lent: fewer than s are no draw, 30
 
 unfoldable pub drawFill : List ℕ → List ℕ → List ℕ → ℕ
 drawFill sheet groups values =
     let p = settledSheet sheet in
-    cond (eqb (p .refusal) 0) (fillRefusal (p .model) (setsFrom groups) values) (p .refusal)
+    cond (eqb (p .refusal) 0) (fillRefusal (p .model) groups values) (p .refusal)
 
 unfoldable pub drawValues : List ℕ → List ℕ → List ℕ → List ℕ
 drawValues sheet groups values =
     let p = settledSheet sheet in
-    cond (eqb (p .refusal) 0) (filledValues (p .model) (setsFrom groups) values) values
+    cond (eqb (p .refusal) 0) (filledValues (p .model) groups values) values
 
 -- ---- combining two sheets, answered as a sheet is written: the first's refusal, the second's, then combining's
 

@@ -1,2 +1,3 @@
+pub mod Answer
 pub mod Certify
 pub mod Draw

@@ -7,11 +7,11 @@ ghost use Rattle.model.specs.Assignment.{valuesAfter};
 ghost use Rattle.model.specs.Text.{blockBuffer};
 ghost use Rattle.model.specs.SheetText.{sheetBuffer};
 ghost use Rattle.model.specs.Fill.{fillRefusal, filledValues};
-ghost use Rattle.words.specs.Words.{setsFrom, modelFrom};
+ghost use Rattle.words.specs.Words.{modelFrom};
 ghost use Rattle.exports.specs.Draw.{drawRead, settledSheet, fitted, settleNumber, tableAfter, drawSettle, drawTable, modelSettle, modelTable, drawBlock, drawBuffer, modelBlock, drawBlockCount, modelBlockCount, modelSheet, drawBlocks, drawRun, readingOf, drawLine, closedSheet, drawClose, drawGroups, modelClose, modelGroups, drawFill, drawValues, combinedSheets, drawCombine, drawCombined, modelCombine, modelCombined};
-ghost use Rattle.certificate.specs.declared.Opening.the-variants.{Open};
-ghost use Rattle.certificate.specs.NoDraw.{openingOf};
+ghost use Rattle.certificate.specs.NoDraw.{leftAs};
 ghost use Rattle.exports.specs.Certify.{verdictNumber, Judged};
+ghost use Rattle.exports.specs.Answer.{drawAnswer, drawAnswered, DrawOf};
 use certificate::Verdict;
 use model::Closed;
 use model::Combined;
@@ -215,7 +215,45 @@ pub extern "C" fn draw_close_model(
     packing::close_number(a, groups)
 }
 
-// Filling with a word for each group, of which those that are missing are 0: the refusal, or 0.
+// From bytes to groups: a sheet and a solver's whole output, read, settled, read back and closed. refusal * 65536 + line of the sheet, or 0 and the groups,
+// which are a draw of the sheet. A slice without room for them is 24.
+#[no_mangle]
+pub extern "C" fn draw_answer(sheet: &[u8], output: &[u8], groups: &mut [u64]) -> u64
+    ensures { λ r. ⌜ r ≡ drawAnswer (now (sheet .entry)) (now (output .entry)) (length (now (groups .entry))) ⌝ }
+    ensures { λ r. ⌜ now (groups .exit) ≡ drawAnswered (now (sheet .entry)) (now (output .entry)) (now (groups .entry)) ⌝ }
+    ensures { λ r. ⌜ (r ≡ 0 → DrawOf (now (sheet .entry)) (now (groups .exit))) ⌝ }
+{
+    let a = answering::answer(sheet, output);
+    let words = a.groups;
+    let c = Closed {
+        refusal: a.refusal,
+        groups: words,
+    };
+    let refusal = packing::close_number(c, groups);
+    packing::numbered(refusal, a.line)
+}
+
+// ---- filling
+
+// Filling with a word for each group: the refusal, or 0. Fewer words than groups are no draw, 30.
+fn filled(m: Model, groups: &[u64], values: &mut [u8]) -> u32
+    ensures { λ r. ⌜ r ≡ fillRefusal m (now (groups .entry)) (now (values .entry)) ⌝ }
+    ensures { λ r. ⌜ now (values .exit) ≡ filledValues m (now (groups .entry)) (now (values .entry)) ⌝ }
+{
+    let all = m.groups;
+    let constraints = m.constraints;
+    model::whole(all, constraints);
+    if groups.len() < m.s as usize {
+        let refusal = propagate::unsettled(m);
+        if refusal != 0 {
+            return refusal;
+        }
+        return 30;
+    }
+    let sets = words::sets_from(groups);
+    filling::fill(m, &sets, values)
+}
+
 #[no_mangle]
 pub extern "C" fn draw_fill(sheet: &[u8], groups: &[u64], values: &mut [u8]) -> u32
     ensures { λ r. ⌜ r ≡ drawFill (now (sheet .entry)) (now (groups .entry)) (now (values .entry)) ⌝ }
@@ -226,18 +264,16 @@ pub extern "C" fn draw_fill(sheet: &[u8], groups: &[u64], values: &mut [u8]) -> 
         return p.refusal;
     }
     let m = p.model;
-    let sets = words::sets_from(groups);
-    filling::fill(m, &sets, values)
+    filled(m, groups, values)
 }
 
 #[no_mangle]
 pub extern "C" fn draw_fill_model(words: &[u64], groups: &[u64], values: &mut [u8]) -> u32
-    ensures { λ r. ⌜ r ≡ fillRefusal (modelFrom (now (words .entry))) (setsFrom (now (groups .entry))) (now (values .entry)) ⌝ }
-    ensures { λ r. ⌜ now (values .exit) ≡ filledValues (modelFrom (now (words .entry))) (setsFrom (now (groups .entry))) (now (values .entry)) ⌝ }
+    ensures { λ r. ⌜ r ≡ fillRefusal (modelFrom (now (words .entry))) (now (groups .entry)) (now (values .entry)) ⌝ }
+    ensures { λ r. ⌜ now (values .exit) ≡ filledValues (modelFrom (now (words .entry))) (now (groups .entry)) (now (values .entry)) ⌝ }
 {
     let m = words::model_from(words);
-    let sets = words::sets_from(groups);
-    filling::fill(m, &sets, values)
+    filled(m, groups, values)
 }
 
 // ---- combining
@@ -312,7 +348,8 @@ fn verdict_number(v: Verdict) -> u64
     }
 }
 
-// Whether a certificate shows that the sheet has no draw, in memory that the caller lends: as much as it has, for what a program's own cannot hold.
+// Whether a certificate shows that the sheet has no draw, in memory that the caller lends: as much as it has, for what a program's own cannot
+// hold. It is left cleared, or as it was where the sheet is refused or settles out.
 #[no_mangle]
 pub extern "C" fn draw_certify(
     sheet: &[u8],
@@ -323,7 +360,7 @@ pub extern "C" fn draw_certify(
     marks: &mut [u32],
 ) -> u64
     ensures { λ r. ⌜ Judged (now (sheet .entry)) r ⌝ }
-    ensures { λ r. ⌜ ((openingOf (now (sheet .entry)) ≡ Open → ⊥) → (now (text .exit) ≡ now (text .entry)) × (now (store .exit) ≡ now (store .entry)) × (now (index .exit) ≡ now (index .entry)) × (now (marks .exit) ≡ now (marks .entry))) ⌝ }
+    ensures { λ r. ⌜ (now (text .exit) ≡ leftAs (now (sheet .entry)) (now (text .entry))) × (now (store .exit) ≡ leftAs (now (sheet .entry)) (now (store .entry))) × (now (index .exit) ≡ leftAs (now (sheet .entry)) (now (index .entry))) × (now (marks .exit) ≡ leftAs (now (sheet .entry)) (now (marks .entry))) ⌝ }
 {
     let v = certificate::certify(sheet, certificate, text, store, index, marks);
     verdict_number(v)

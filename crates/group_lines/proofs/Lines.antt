@@ -76,7 +76,7 @@ pub record Halfway (text : List ℕ) (n s : ℕ) (groups : List ℕ) (done at : 
   pub few : done ≤ s
   pub rest : groupsFrom n s (linesOf text) 0 (replicate 256 0) ≡ groupsFrom n s (linesOf (drop at text)) done groups
 
-line-inside : (l : List ℕ) → lineLength l ≤ length l
+pub line-inside : (l : List ℕ) → lineLength l ≤ length l
 line-inside [] = omega arith
 line-inside (b ∷ bs) = go (eqb b 10) (line-inside bs)
   where
@@ -85,7 +85,7 @@ line-inside (b ∷ bs) = go (eqb b 10) (line-inside bs)
     go false h = omega arith
 
 -- past the end nothing is left
-drop-min : (l : List ℕ) (k : ℕ) → drop (min k (length l)) l ≡ drop k l
+pub drop-min : (l : List ℕ) (k : ℕ) → drop (min k (length l)) l ≡ drop k l
 drop-min l k = go (decLe k (length l))
   where
     go : Dec (k ≤ length l) → drop (min k (length l)) l ≡ drop k l

@@ -7,7 +7,7 @@ ghost use Rattle.model.specs.Limits.{limits};
 ghost use Rattle.model.specs.Lists.{total, onPlace};
 ghost use Rattle.model.specs.LimitRules.{raised, lowered, lowAtLeast, highAtMost, lowFirst, highFirst, unionLimits, limitRules};
 ghost use Rattle.model.specs.Propagate.{run};
-ghost use Rattle.limit_rule.specs.Moves.{limitOf, Moves, MovesLow, MovesHigh};
+ghost use Rattle.limit_rule.specs.Moves.{limitOf, Moves, MovesLow, MovesHigh, lowsAfter, highsAfter};
 use model::Constraint;
 use model::Model;
 
@@ -155,7 +155,7 @@ fn union_count(k: u32) -> usize
 // ---- a constraint
 
 // Its steps in order.
-pub fn applied(low: &mut [u32; Model::GROUPS], high: &mut [u32; Model::GROUPS], c: Constraint)
+fn limits_moved(low: &mut [u32; Model::GROUPS], high: &mut [u32; Model::GROUPS], c: Constraint)
     ensures { λ r. ⌜ Moves (run (limitRules c)) (now (low .entry)) (now (high .entry)) (now (low .exit)) (now (high .exit)) ⌝ }
 {
     let ids = c.groups;
@@ -185,4 +185,24 @@ pub fn applied(low: &mut [u32; Model::GROUPS], high: &mut [u32; Model::GROUPS], 
         let count = union_count(c.count);
         union_limits(low, high, &ids, count);
     }
+}
+
+// What owning two arrays tells of their lengths.
+fn sized(low: [u32; Model::GROUPS], high: [u32; Model::GROUPS])
+    ensures { λ r. ⌜ (length low ≡ limits .groups) × (length high ≡ limits .groups) ⌝ }
+{}
+
+// The limits after a constraint's rules of limits, whatever the groups' entrants are.
+pub fn applied(low: &mut [u32; Model::GROUPS], high: &mut [u32; Model::GROUPS], c: Constraint)
+    ensures { λ r. ⌜ now (low .exit) ≡ lowsAfter c (now (low .entry)) (now (high .entry)) ⌝ }
+    ensures { λ r. ⌜ now (high .exit) ≡ highsAfter c (now (low .entry)) (now (high .entry)) ⌝ }
+    ensures { λ r. ⌜ Moves (run (limitRules c)) (now (low .entry)) (now (high .entry)) (now (low .exit)) (now (high .exit)) ⌝ }
+{
+    let l = *low;
+    let h = *high;
+    sized(l, h);
+    limits_moved(low, high, c);
+    let m = *low;
+    let k = *high;
+    sized(m, k);
 }

@@ -5,6 +5,7 @@ ghost use mathlib.Core.List.{List};
 ghost use Prim.Native.Nat.{ℕ, _≤_, _<_};
 ghost use lib.ListN.{length};
 ghost use Rattle.refutation.specs.Sound.{Holds, Keeps};
+ghost use Rattle.lrat.specs.First.{firstReader};
 use refutation::State;
 
 pub struct Reader {
@@ -46,7 +47,7 @@ impl Reader {
 
 // The first line of a certificate; line 0, where the state is refused before it.
 pub fn first_line(state: State) -> Reader
-    ensures { λ r. ⌜ r .state ≡ state ⌝ }
+    ensures { λ r. ⌜ (r .state ≡ state) × (r ≡ firstReader state) ⌝ }
 {
     let line = if state.refusal == 0 { 1 } else { 0 };
     Reader {

@@ -1,4 +1,4 @@
--- "Lines and their clauses. For one entrant, F means "in F", -F "not in F"." One table, read by propagation, block writer and closing.
+-- "Lines and their clauses": "For one entrant, F means "in F", -F "not in F"." One table, read by propagation, block writer and closing.
 use Prim.Native.Nat.{ℕ, _+_}
 use mathlib.Core.Bool.{Bool, cond}
 use mathlib.Core.List.{List, [], _∷_, _++_, map}
@@ -9,7 +9,7 @@ use Rattle.model.specs.declared.Literal.the-variants.{Pos, Neg}
 use Rattle.model.specs.declared.Constraint.{Constraint}
 use Rattle.model.specs.Lists.{range, between}
 
--- the codes whose clauses are written entrant by entrant
+-- the codes whose clauses are all written entrant by entrant, "by entrant, then clause"; of code 7 the four are, and "The line's last clause" is not
 abbrev pub byEntrant : ℕ → Bool
 byEntrant code = between 1 6 code
 

@@ -1,5 +1,5 @@
 -- The model of a sheet and the ranges that refusal 20 asks: "20 a model outside the sheet's ranges, an entrant past n in a set, a group twice in a
--- line, or fixed not within possible (entries past s, c and a line's groups are ignored ..)".
+-- line, or fixed not within possible (entries past s, c and a line's groups are ignored, and come back from settling as they were)."
 use mathlib.Core.Path.{_≡_}
 use Prim.Native.Nat.{ℕ, _-_, _^_, _≤_}
 use mathlib.Core.Bool.{Bool, not, _&&_, _||_}
@@ -30,7 +30,7 @@ zeroModel = record {
   constraints = replicate (limits .constraints) zeroConstraint;
 }
 
--- "The table holds, per group, the fixed entrants, the possible ones, low and high": groups 1..s. And constraints 1..c
+-- "The table holds, per group, the fixed entrants, the possible ones (marks 1 and 2), low and high.": groups 1..s. And constraints 1..c
 unfoldable pub tableOf : Model → List Group
 tableOf m = take (m .s) (m .groups)
 
@@ -60,7 +60,7 @@ constraintSized c = leb (limits .members) (length (c .groups))
 abbrev pub membersSized : Model → Bool
 membersSized m = every constraintSized (constraintsOf m)
 
--- each list of a model has the length of the array that it stands for
+-- the lists of groups and of constraints have the length of the array that they stand for, and each constraint's list at least the length of its own
 pub record Whole (m : Model) : Type 0 where
   pub groups : length (m .groups) ≡ limits .groups
   pub constraints : length (m .constraints) ≡ limits .constraints

@@ -18,7 +18,8 @@ use Rattle.model.specs.Text.{fieldText}
 
 -- ---- the fields of each line, as numbers
 
--- "Head, 4 fields: 1, n (entrants, 1 to 32), s (groups, 1 to 256), c (constraint lines, 0 to 256)."
+-- "Head, 4 fields: 1, n (entrants, 1 to 32), s (groups, 1 to 256), c (constraint lines, 0 to 256)."; by request 7 "n goes to 64", and "With n above 32,
+-- s is at most 96"
 unfoldable pub headFields : Model → List ℕ
 headFields m = 1 ∷ m .n ∷ m .s ∷ m .c ∷ []
 

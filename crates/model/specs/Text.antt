@@ -23,7 +23,7 @@ digits (suc places) v = elim (ltb v 10) [ true ↦ (48 + v) ∷ [] | false ↦ d
 unfoldable pub decimal : ℕ → List ℕ
 decimal v = digits (suc v) v
 
--- "each 4 columns wide: spaces, then a decimal number .., right-justified"; nothing for a number that has more digits
+-- "each 4 columns wide: spaces, then a decimal number without needless leading zero, right-justified"; nothing for a number that has more digits
 unfoldable pub fieldText : ℕ → List ℕ
 fieldText v = cond (leb (length (decimal v)) 4) (replicate (4 - length (decimal v)) 32 ++ decimal v) []
 

@@ -1,18 +1,19 @@
 -- Laws of a group's totalizer: m, L, U, and how many outputs. Assumes nothing.
-use mathlib.Core.Path.{_≡_, ap, _∙_}
+use mathlib.Core.Path.{_≡_, refl, ap, ap₂, _∙_}
 use mathlib.Core.Bool.{Bool, true, false, cond, _||_}
-use mathlib.Core.List.{List, [], _∷_}
-use Prim.Native.Nat.{ℕ, suc, _+_, _-_, _*_, _≤_, _<_}
+use mathlib.Core.List.{List}
+use Prim.Native.Nat.{ℕ, zero, suc, _+_, _-_, _*_, _/_, _≤_, _<_}
 use native.Mathlib.Omega.{arith}
 use borrow.Author.Tests.{lt-ltb, le-ltb, le-leb, lt-leb}
-use lib.Dec.{leb, ltb, eqb, eqb→eq}
-use lib.ListN.{getD, take}
+use lib.Dec.{leb, ltb}
+use lib.ListN.{take}
 use Rattle.model.specs.declared.Group.{Group}
 use Rattle.model.specs.Lists.{total}
 use Rattle.model.specs.Limits.{limits}
 use Rattle.model.specs.Totalizer.{outputCountIn, treeOutputCount}
 use Rattle.model.specs.Cnf.{openCount, atLeast, atMost, counted, outputsOf, firstVariable, firstOutput}
-use Rattle.model.proofs.Lists.{every-range}
+use Rattle.encoding_laws.proofs.Counts.{output-count-step}
+use Rattle.encoding_laws.proofs.Bounds.{outputs-mono}
 use Rattle.numbering.specs.declared.Totalizer.{Totalizer}
 use Rattle.numbering.specs.Numbering.{totalizerOf}
 
@@ -59,17 +60,47 @@ some-outputs g e = rw e
 
 -- ---- how many outputs a tree has
 
-abbrev outputTable : List ℕ
-outputTable =
-    0 ∷ 0 ∷ 2 ∷ 5 ∷ 8 ∷ 12 ∷ 16 ∷ 20 ∷ 24 ∷ 29 ∷ 34 ∷ 39 ∷ 44 ∷ 49 ∷ 54 ∷ 59 ∷ 64 ∷ 70 ∷ 76 ∷ 82 ∷ 88 ∷ 94 ∷ 100 ∷ 106 ∷ 112 ∷ 118 ∷ 124 ∷ 130
-    ∷ 136 ∷ 142 ∷ 148 ∷ 154 ∷ 160 ∷ 167 ∷ 174 ∷ 181 ∷ 188 ∷ 195 ∷ 202 ∷ 209 ∷ 216 ∷ 223 ∷ 230 ∷ 237 ∷ 244 ∷ 251 ∷ 258 ∷ 265 ∷ 272 ∷ 279 ∷ 286
-    ∷ 293 ∷ 300 ∷ 307 ∷ 314 ∷ 321 ∷ 328 ∷ 335 ∷ 342 ∷ 349 ∷ 356 ∷ 363 ∷ 370 ∷ 377 ∷ 384 ∷ []
-
-pub output-table : (m : ℕ) → m ≤ limits .word → getD outputTable m 0 ≡ treeOutputCount m
+-- a leaf, and two
+pub outputs-first : (m : ℕ) → m < 2 → (0 ≡ treeOutputCount m) × (m + m ≡ treeOutputCount (m + 1))
 unfolding treeOutputCount outputCountIn
-output-table m h =
-    eqb→eq (getD outputTable m 0) (treeOutputCount m)
-    (every-range (λ k. eqb (getD outputTable k 0) (treeOutputCount k)) 0 (suc (limits .word)) tt m (omega arith) (omega arith))
+outputs-first zero h = (refl, refl)
+outputs-first (suc zero) h = (refl, refl)
+outputs-first (suc (suc m)) h = absurd (omega arith)
+
+-- the halves of m and of m + 1: x and y are counted of m / 2 and of one more
+module _ (m : ℕ) (h : 2 ≤ m) where
+  own-step : treeOutputCount m ≡ m + treeOutputCount (m / 2) + treeOutputCount (m - m / 2)
+  own-step = output-count-step m h
+
+  left-more : (m + 1) / 2 ≡ m - m / 2
+  left-more = omega arith
+
+  right-more : m + 1 - (m + 1) / 2 ≡ m / 2 + 1
+  right-more = omega arith
+
+  more-step : treeOutputCount (m + 1) ≡ m + 1 + treeOutputCount (m - m / 2) + treeOutputCount (m / 2 + 1)
+  more-step =
+      output-count-step (m + 1) (omega arith)
+      ∙ ap₂ (λ (i j : ℕ). m + 1 + treeOutputCount i + treeOutputCount j) left-more right-more
+
+  pub outputs-even : m ≤ m / 2 + m / 2 → {x y : ℕ} → x ≡ treeOutputCount (m / 2) → y ≡ treeOutputCount (m / 2 + 1)
+      → (m + x + x ≡ treeOutputCount m) × (m + 1 + x + y ≡ treeOutputCount (m + 1))
+  outputs-even k p q =
+      let e : treeOutputCount (m - m / 2) ≡ treeOutputCount (m / 2) = ap treeOutputCount {x = m - m / 2} {y = m / 2} (omega arith) in
+      (omega (arith, own-step, e), omega (arith, more-step, e))
+
+  pub outputs-odd : m / 2 + m / 2 < m → {x y : ℕ} → x ≡ treeOutputCount (m / 2) → y ≡ treeOutputCount (m / 2 + 1)
+      → (m + x + y ≡ treeOutputCount m) × (m + 1 + y + y ≡ treeOutputCount (m + 1))
+  outputs-odd k p q =
+      let e : treeOutputCount (m - m / 2) ≡ treeOutputCount (m / 2 + 1) = ap treeOutputCount {x = m - m / 2} {y = m / 2 + 1} (omega arith) in
+      (omega (arith, own-step, e), omega (arith, more-step, e))
+
+-- and they are few
+pub outputs-few-more : (m : ℕ) → m ≤ limits .word → (treeOutputCount m ≤ 1000) × (treeOutputCount (m + 1) ≤ 1000)
+outputs-few-more m h = (omega (arith, outputs-mono m (suc (limits .word)) (omega arith), most), omega (arith, outputs-mono (m + 1) (suc (limits .word)) (omega arith), most))
+  where
+    most : treeOutputCount (suc (limits .word)) ≤ 1000
+    most = unfold treeOutputCount outputCountIn in omega arith
 
 -- no more than a square has places
 pub outputs-few : treeOutputCount (limits .word) ≤ limits .word * limits .word

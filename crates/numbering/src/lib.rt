@@ -60,74 +60,38 @@ pub fn totalizer_of(g: Group) -> Totalizer
 
 // ---- its outputs
 
-// "outputs A(1) = 0, A(m) = m + A(left) + A(right)", for every size of a word's set.
-const OUTPUTS: [u32; Model::WORD as usize + 1] = [
-    0,
-    0,
-    2,
-    5,
-    8,
-    12,
-    16,
-    20,
-    24,
-    29,
-    34,
-    39,
-    44,
-    49,
-    54,
-    59,
-    64,
-    70,
-    76,
-    82,
-    88,
-    94,
-    100,
-    106,
-    112,
-    118,
-    124,
-    130,
-    136,
-    142,
-    148,
-    154,
-    160,
-    167,
-    174,
-    181,
-    188,
-    195,
-    202,
-    209,
-    216,
-    223,
-    230,
-    237,
-    244,
-    251,
-    258,
-    265,
-    272,
-    279,
-    286,
-    293,
-    300,
-    307,
-    314,
-    321,
-    328,
-    335,
-    342,
-    349,
-    356,
-    363,
-    370,
-    377,
-    384,
-];
+// How many outputs a tree has, and one of a leaf more.
+struct Outputs {
+    own: u32,
+    more: u32,
+}
+
+// "outputs A(1) = 0, A(m) = m + A(left) + A(right)", of sizes m and m + 1 at once: their halves are of m / 2 and of one more.
+fn outputs_by_halves(m: u32) -> Outputs
+    requires { ⌜ m ≤ limits .word ⌝ }
+    ensures { λ r. ⌜ (r .own ≡ treeOutputCount m) × (r .more ≡ treeOutputCount (m + 1)) ⌝ }
+{
+    if m < 2 {
+        return Outputs {
+            own: 0,
+            more: m + m,
+        };
+    }
+    let a = m / 2;
+    let h = outputs_by_halves(a);
+    let x = h.own;
+    let y = h.more;
+    if a + a < m {
+        return Outputs {
+            own: m + x + y,
+            more: m + 1 + y + y,
+        };
+    }
+    Outputs {
+        own: m + x + x,
+        more: m + 1 + x + y,
+    }
+}
 
 // The outputs of a tree of size m. 0 past a word's size: no group has such a tree.
 pub fn output_count(m: u32) -> u32
@@ -136,7 +100,8 @@ pub fn output_count(m: u32) -> u32
     if Model::WORD < m {
         return 0;
     }
-    OUTPUTS[m as usize]
+    let h = outputs_by_halves(m);
+    h.own
 }
 
 fn outputs_of(g: Group) -> u32

@@ -144,7 +144,7 @@ fn put_head(n: u32, s: u32, c: u32, words: &mut [u64])
 }
 
 // The words of a model.
-const MODEL_WORDS: usize = 3 + 4 * Model::GROUPS + (2 + Model::MEMBERS) * Model::CONSTRAINTS;
+pub const MODEL_WORDS: usize = 3 + 4 * Model::GROUPS + (2 + Model::MEMBERS) * Model::CONSTRAINTS;
 
 // A model's words at the front of a slice that has room for them; else false, and the slice is left.
 pub fn put_model(m: Model, words: &mut [u64]) -> bool

@@ -3,3 +3,4 @@ pub mod Noting
 pub mod Indexing
 pub mod Skipping
 pub mod Settling
+pub mod Demand

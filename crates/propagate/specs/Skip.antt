@@ -8,10 +8,10 @@ use lib.ListN.{length, getD, set, take}
 use Rattle.model.specs.declared.Group.{Group}
 use Rattle.model.specs.declared.Constraint.{Constraint}
 use Rattle.model.specs.declared.Model.{Model}
-use Rattle.model.specs.Lists.{range}
+use Rattle.model.specs.Lists.{every, range}
 use Rattle.model.specs.Limits.{limits}
 use Rattle.model.specs.Clauses.{groupsOf}
-use Rattle.model.specs.Model.{zeroGroup, zeroConstraint, codeInRange}
+use Rattle.model.specs.Model.{zeroGroup, zeroConstraint, codeInRange, constraintSized}
 use Rattle.model.specs.Propagate.{groupRuleAt, constraintRule, run, rules, tenable, sameTable, Outcome, contradiction, fixpoint, iterate}
 use Rattle.table.specs.Table.{Whole}
 use Rattle.marks.specs.Marks.{marked}
@@ -127,6 +127,7 @@ pub record Ran (n s : ℕ) (cs : List Constraint) (fuel j : ℕ) (t : List Group
 
 -- u is the table after a pass from a model's own, with the answers of both tests
 pub record After (m : Model) (u : List Group) (same ok : Bool) : Type 0 where
+  pub sized : T (every constraintSized (m .constraints))
   pub before : Whole (m .groups)
   pub whole : Whole u
   pub pass : u ≡ run (rules (m .n) (m .s) (take (m .c) (m .constraints))) (m .groups)

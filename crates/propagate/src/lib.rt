@@ -10,6 +10,7 @@ ghost use Rattle.model.specs.Lists.{every};
 ghost use Rattle.model.specs.Model.{constraintInRange, constraintSized, inRange};
 ghost use Rattle.model.specs.Propagate.{tenable, refusedPropagation, propagated, unsettledOr};
 ghost use Rattle.table.specs.Table.{groupsIn, Whole};
+ghost use Rattle.correctness.specs.Demand3.{Settling};
 ghost use Rattle.propagate.specs.Skip.{Ran, After};
 use model::Constraint;
 use model::Model;
@@ -198,10 +199,11 @@ fn refused(refusal: u32, m: Model) -> Propagated
     }
 }
 
-// Passes until one changes nothing; refusals 20 and 21.
+// Passes until one changes nothing; refusals 20 and 21. In range, demand 3 says what the answer is: `Settling`.
 pub fn propagate(m: Model) -> Propagated
     ensures { λ r. ⌜ r ≡ propagated m ⌝ }
     ensures { λ r. ⌜ r .passes ≤ 2 * m .s * m .n + 1 ⌝ }
+    ensures { λ r. ⌜ ((r .refusal ≡ 20 → ⊥) → Settling m r) ⌝ }
 {
     if !range::in_range(m) {
         return refused(20, m);

@@ -54,7 +54,7 @@ pub record On (own : ℕ → Bool) (r : List Group → List Group) : Type 0 wher
   pub frame : (t : List Group) (i : ℕ) → own i ≡ false → getD (r t) i zeroGroup ≡ getD t i zeroGroup
   pub reads : (t u : List Group) → length t ≡ length u → Agree own t u → Agree own (r t) (r u)
 
-place-other : (i k : ℕ) (r : Group → Group) (t : List Group) → (k ≡ i → ⊥) → getD (onPlace i r t) k zeroGroup ≡ getD t k zeroGroup
+pub place-other : (i k : ℕ) (r : Group → Group) (t : List Group) → (k ≡ i → ⊥) → getD (onPlace i r t) k zeroGroup ≡ getD t k zeroGroup
 place-other i k r t h =
     ap (λ (x : List Group). getD x k zeroGroup) (place-set i r t zeroGroup) ∙ getD-set-other t i k (r (getD t i zeroGroup)) zeroGroup h
 

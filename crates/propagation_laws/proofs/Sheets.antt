@@ -6,7 +6,7 @@ use native.Mathlib.Nat.{add-zero, le-trans}
 use native.Mathlib.Numerals.{add-one}
 use native.Mathlib.Omega.{arith}
 use mathlib.Core.Bool.{Bool, true, false, cond, not, _&&_}
-use mathlib.Core.List.{List, [], _∷_, _++_, map, List·Permᴰ, Permᴰ·map}
+use mathlib.Core.List.{List, [], _∷_, _++_, map, List·Permᴰ, Permᴰ·refl, Permᴰ·map}
 use borrow.Author.Tests.{ltb-false, leb-true, leb-false, eqb-true, eqb-false, le-leb, lt-leb, le-ltb, ne-eqb}
 use lib.Dec.{T, leb, ltb, eqb, eqb·suc-zero, leb→le, le→leb}
 use lib.ListN.{length, getD, take, drop, set, replicate, length-append, length-map, length-replicate, take-append-drop}
@@ -373,7 +373,7 @@ not-refused : (r : ℕ) (m : Model) → refusedSheet (suc r) 0 ≡ accepted m �
 unfolding refusedSheet
 not-refused r m e = let z : suc r ≡ 0 = ap (λ (a : SheetRead). a .refusal) e in omega arith
 
-bytes : (b : List ℕ) (m : Model) → Accepted b m → Bytes b m
+pub bytes : (b : List ℕ) (m : Model) → Accepted b m → Bytes b m
 unfolding readSheet
 bytes b m e = go (ltb (limits .sheet) (length b)) refl (eqb (length b) 0) refl (eqb (getD b (length b - 1) 0) 10) refl e
   where
@@ -395,6 +395,46 @@ from-bytes b m h =
       ne-eqb (length b) 0 (λ e. omega (arith, h .some)),
       last b (h .some) ∙ T-true (ends b) (h .ended),
     ) (h .reads)
+
+-- ---- an accepted sheet's answer has line 0
+
+same-or : (x : Bool) (p q : SheetRead) → (p .refusal ≡ 0 → p .line ≡ 0) → (q .refusal ≡ 0 → q .line ≡ 0) → cond x p q .refusal ≡ 0 → cond x p q .line ≡ 0
+same-or true p q f g = f
+same-or false p q f g = g
+
+refused-line : (r k : ℕ) → (r ≡ 0 → ⊥) → refusedSheet r k .refusal ≡ 0 → refusedSheet r k .line ≡ 0
+unfolding refusedSheet
+refused-line r k n e = absurd (n e)
+
+lines-line : (ls : List (List ℕ)) (done : ℕ) (m : Model) → readLines ls done m .refusal ≡ 0 → readLines ls done m .line ≡ 0
+unfolding afterLast
+lines-line [] done m =
+    same-or (leb done (m .s + m .c)) (refusedSheet 5 (done + 1)) (record { refusal = 0; line = 0; model = m }) (refused-line 5 (done + 1) (λ z. omega arith)) (λ e. refl)
+lines-line (l ∷ ls) done m = go (eqb (lineRefusal (m .n) (m .s) (m .c) done l) 0) refl (lines-line ls (done + 1) (withLine done m l))
+  where
+    go : (x : Bool) → eqb (lineRefusal (m .n) (m .s) (m .c) done l) 0 ≡ x → (readLines ls (done + 1) (withLine done m l) .refusal ≡ 0 → readLines ls (done + 1) (withLine done m l) .line ≡ 0)
+        → cond x (readLines ls (done + 1) (withLine done m l)) (refusedSheet (lineRefusal (m .n) (m .s) (m .c) done l) (done + 1)) .refusal ≡ 0
+        → cond x (readLines ls (done + 1) (withLine done m l)) (refusedSheet (lineRefusal (m .n) (m .s) (m .c) done l) (done + 1)) .line ≡ 0
+    go true e f = f
+    go false e f = refused-line (lineRefusal (m .n) (m .s) (m .c) done l) (done + 1) (eqb-false (lineRefusal (m .n) (m .s) (m .c) done l) 0 e)
+
+sheet-line : (b : List ℕ) → readSheet b .refusal ≡ 0 → readSheet b .line ≡ 0
+unfolding readSheet
+sheet-line b =
+    let first = refused-line 1 0 (λ z. omega arith) in
+    let second = refused-line 2 0 (λ z. omega arith) in
+    same-or (ltb (limits .sheet) (length b)) _ _ first
+    (same-or (eqb (length b) 0) _ _ second (same-or (eqb (getD b (length b - 1) 0) 10) _ _ (lines-line (linesOf b) 0 zeroModel) second))
+
+pub accepted-of : (b : List ℕ) (r : SheetRead) → r ≡ readSheet b → r .refusal ≡ 0 → Accepted b (r .model)
+accepted-of b r e z =
+    let l : r .line ≡ 0 = ap (λ (x : SheetRead). x .line) e ∙ sheet-line b (sym (ap (λ (x : SheetRead). x .refusal) e) ∙ z) in
+    sym e ∙ ap₂ (λ (x y : ℕ). record { refusal = x; line = y; model = r .model }) z l
+
+-- ---- an accepted sheet is an order of itself
+
+pub itself : (b : List ℕ) (m : Model) → Accepted b m → OrderOf b b m
+itself b m h = record { accepted = h; whole = sym (text-lines b (bytes b m h .ended)); kept = refl; permuted = Permᴰ·refl _ }
 
 -- ---- the theorems
 

@@ -1,10 +1,11 @@
-// Reads a solver's answer to any listing: argument 1 is the number of the listing's variables, the solver's output comes on standard input.
+// Reads a solver's answer to any listing of up to `Model::VARIABLES` variables: argument 1 is their number, the solver's output comes on standard input.
 ghost use mathlib.Core.Path.{_≡_};
 ghost use Prim.Native.Nat.{_≤_};
 ghost use mathlib.Core.Bool.{cond};
 ghost use mathlib.Core.Option.{none};
 ghost use lib.Dec.{leb};
 ghost use lib.ListN.{length};
+ghost use Rattle.model.specs.Limits.{limits};
 ghost use Rattle.model.specs.Sheet.{numberOf, digitsValue};
 ghost use Rattle.report.specs.Messages.{Counted};
 ghost use Rattle.lines.specs.Cut.{cutting, cutBytes};
@@ -15,14 +16,12 @@ use libc::STDOUT_FILENO;
 use lines::Cut;
 use lines::Fed;
 use model::Digits;
+use model::Model;
 use model::Reading;
 use model::Written;
 use report::Message;
 
-// The most variables of a listing that is read.
-const MOST: usize = 65536;
-
-// The longest line that is read. A `v` line that says each of 65,536 variables once has less than 500,000 bytes.
+// The longest line that is read. A `v` line that says each of 59,392 variables once has less than 500,000 bytes.
 const LONGEST: usize = 1048576;
 
 // The number of variables: decimal, without needless zeros, up to 9 digits.
@@ -114,7 +113,7 @@ fn read_lines(values: &mut [u8]) -> Reading
 
 // The values that the solver's output says, whether it closed them, and how many it left unsaid.
 fn print_answer(values: &mut [u8])
-    requires { ⌜ length (now values) ≤ 65536 ⌝ }
+    requires { ⌜ length (now values) ≤ limits .variables ⌝ }
 {
     let reading = read_lines(values);
     let mut line = room();
@@ -130,7 +129,7 @@ fn print_answer(values: &mut [u8])
 
 // A value for each of v variables.
 fn with_values(v: usize)
-    requires { ⌜ v ≤ 65536 ⌝ }
+    requires { ⌜ v ≤ limits .variables ⌝ }
 {
     let mut values = io::large_buffer();
     print_answer(&mut values[..v]);
@@ -151,7 +150,7 @@ fn main() {
         usage();
         return;
     }
-    if MOST < v as usize {
+    if Model::VARIABLES < v as usize {
         usage();
         return;
     }

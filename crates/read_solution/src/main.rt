@@ -1,15 +1,18 @@
 // Reads a solver's answer back as groups: the sheet is the file that argument 1 names, the solver's output comes on standard input.
 ghost use mathlib.Core.Path.{_≡_};
-ghost use lib.ListN.{length};
+ghost use lib.ListN.{length, replicate};
 ghost use Rattle.model.specs.Limits.{limits};
 ghost use Rattle.report.specs.Messages.{Counted};
 ghost use Rattle.lines.specs.Cut.{cutting, cutBytes};
 ghost use Rattle.lines.specs.Lines.{ReadFrom};
+ghost use Rattle.read_solution.specs.From.{ClosedFrom, AnsweredFrom};
+use answering::Answered;
 use libc::STDERR_FILENO;
 use libc::STDIN_FILENO;
 use libc::STDOUT_FILENO;
 use lines::Cut;
 use lines::Fed;
+use model::Closed;
 use model::Model;
 use model::Reading;
 use model::Written;
@@ -104,26 +107,54 @@ fn unsaid() -> [u8; Model::VARIABLES]
     [0; Model::VARIABLES]
 }
 
-// The settled model's groups, by what the solver says of its variables.
-fn read_back(m: Model, values: &mut [u8]) {
+// The closing call after all lines, on values of which none is said.
+fn read_back(m: Model, values: &mut [u8]) -> Closed
+    ensures { λ r. ⌜ ClosedFrom 1048576 m (replicate (length (now (values .entry))) 0) r ⌝ }
+{
+    buffers::clear_bytes(values);
     let reading = read_lines(values);
-    let c = solution::close(m, reading, values);
-    if c.refusal != 0 {
-        say(STDOUT_FILENO, report::refused(c.refusal));
-        return;
-    }
-    let words = c.groups;
-    print_groups(words, m.s);
+    solution::close(m, reading, values)
 }
 
-// The settled model, with a value for each of its variables. None has more than there is room for.
-fn with_values(m: Model) {
-    let v = numbering::of_model(m);
-    let count = v.variables as usize;
-    let mut all = unsaid();
-    if count <= Model::VARIABLES {
-        read_back(m, &mut all[..count]);
+// The groups that the solver's output says for a sheet.
+fn answered(sheet: &[u8]) -> Answered
+    ensures { λ r. ⌜ AnsweredFrom 1048576 (now (sheet .entry)) r ⌝ }
+{
+    let r = sheet::read_sheet(sheet);
+    if r.refusal != 0 {
+        return answering::refused(r.refusal, r.line);
     }
+    let m = r.model;
+    let p = propagate::propagate(m);
+    if p.refusal != 0 {
+        return answering::refused(p.refusal, 0);
+    }
+    let q = p.model;
+    let v = numbering::of_model(q);
+    let count = v.variables as usize;
+    let mut values = unsaid();
+    let c = read_back(q, &mut values[..count]);
+    let groups = c.groups;
+    Answered {
+        refusal: c.refusal,
+        line: 0,
+        s: m.s,
+        groups,
+    }
+}
+
+// The reader's refusals, 1 to 9, with their line.
+fn print_answer(a: Answered) {
+    if a.refusal == 0 {
+        let words = a.groups;
+        print_groups(words, a.s);
+        return;
+    }
+    if a.refusal <= 9 {
+        say(STDOUT_FILENO, report::refused_at(a.refusal, a.line));
+        return;
+    }
+    say(STDOUT_FILENO, report::refused(a.refusal));
 }
 
 fn main() {
@@ -141,15 +172,5 @@ fn main() {
     let mut sheet_space = [0u8; Model::SHEET_BYTES + 1];
     let n = io::read_full(fd, &mut sheet_space);
     libc::close(fd);
-    let r = sheet::read_sheet(&sheet_space[..n]);
-    if r.refusal != 0 {
-        say(STDOUT_FILENO, report::refused_at(r.refusal, r.line));
-        return;
-    }
-    let p = propagate::propagate(r.model);
-    if p.refusal != 0 {
-        say(STDOUT_FILENO, report::refused(p.refusal));
-        return;
-    }
-    with_values(p.model);
+    print_answer(answered(&sheet_space[..n]));
 }

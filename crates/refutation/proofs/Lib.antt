@@ -1,3 +1,4 @@
 pub mod Clauses
 pub mod Marks
 pub mod Steps
+pub mod Equations

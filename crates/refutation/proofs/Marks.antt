@@ -5,7 +5,7 @@ use mathlib.Core.Logic.{_⊎_, inl, inr, ⊎-elim}
 use mathlib.Core.Bool.{Bool, true, false, cond, not}
 use mathlib.Core.List.{List, [], _∷_}
 use native.Mathlib.Omega.{arith}
-use native.Mathlib.Decide.{ℕ-discrete, decLt}
+use native.Mathlib.Decide.{ℕ-discrete}
 use borrow.Author.Tests.{eq-eqb, ne-eqb}
 use lib.Dec.{T, eqb}
 use lib.ListN.{length, getD, set, length-set}
@@ -114,26 +114,9 @@ mark-fresh marks stamp k h l w = go (ℕ-discrete w k)
     go (yes x) = omega (arith, ap (λ (n : ℕ). getD (set marks k stamp) n 0) x, getD-set-same marks k stamp 0 l)
     go (no x) = omega (arith, getD-set-other marks k w stamp 0 x, h w)
 
--- ---- cleared slices
+-- ---- past the end
 
 pub past-end : (xs : List ℕ) (w : ℕ) → length xs ≤ w → getD xs w 0 ≡ 0
 past-end [] w h = refl
 past-end (x ∷ xs) zero h = absurd (omega arith)
 past-end (x ∷ xs) (suc w) h = past-end xs w (omega arith)
-
-pub record Cleared (xs : List ℕ) (i : ℕ) : Type 0 where
-  pub zeros : (k : ℕ) → k < i → getD xs k 0 ≡ 0
-
-pub clear-next : {xs : List ℕ} {i : ℕ} → Cleared xs i → i < length xs → Cleared (set xs i 0) (i + 1)
-clear-next {xs} {i} c h = record { zeros = λ k l. go k l (ℕ-discrete k i) }
-  where
-    go : (k : ℕ) → k < i + 1 → Dec (k ≡ i) → getD (set xs i 0) k 0 ≡ 0
-    go k l (yes e) = ap (λ (n : ℕ). getD (set xs i 0) n 0) e ∙ getD-set-same xs i 0 0 h
-    go k l (no e) = getD-set-other xs i k 0 0 e ∙ c .zeros k (omega arith)
-
-pub cleared : {xs : List ℕ} {i : ℕ} → Cleared xs i → length xs ≤ i → (w : ℕ) → getD xs w 0 ≡ 0
-cleared {xs} {i} c h w = go (decLt w i)
-  where
-    go : Dec (w < i) → getD xs w 0 ≡ 0
-    go (yes l) = c .zeros w l
-    go (no l) = past-end xs w (omega arith)

@@ -4,8 +4,9 @@ ghost use mathlib.Core.Bool.{Bool, false};
 ghost use mathlib.Core.List.{List};
 ghost use Prim.Native.Nat.{ℕ, _+_, _-_, _≤_};
 ghost use lib.Dec.{T};
-ghost use lib.ListN.{length, getD};
+ghost use lib.ListN.{length, replicate};
 ghost use Rattle.refutation.specs.Sound.{flipped, someTrue, storedTrue, begunTrue, Falsified, Says, Holds, Keeps, Appended, Begun};
+ghost use Rattle.refutation.specs.Steps.{firstState, refusedFor, afterPut, storeAfterPut, marksAfterPut, afterCommit, storeAfterCommit, indexAfterCommit, given, placesAt, afterForget, indexAfterForget};
 
 pub struct State {
     // why the certificate is refused; 0 where it is not
@@ -114,6 +115,7 @@ fn scan_clause(store: &[u32], c: usize, marks: &[u32], stamp: u32) -> Found
 pub fn refuse(s: State, why: u32) -> State
     ensures { λ r. ⌜ ((a : List Bool) (store index marks : List ℕ) → Holds a s store index marks → Holds a r store index marks) ⌝ }
     ensures { λ r. ⌜ r .refusal ≡ why ⌝ }
+    ensures { λ r. ⌜ r ≡ refusedFor s why ⌝ }
 {
     let mut r = s;
     r.refusal = why;
@@ -158,6 +160,7 @@ pub fn hint(s: State, store: &[u32], index: &[u32], marks: &mut [u32], id: u32) 
 pub fn put(s: State, store: &mut [u32], index: &[u32], marks: &mut [u32], w: u32) -> State
     ensures { λ r. ⌜ Keeps s (now (store .entry)) (now (index .entry)) (now (marks .entry)) r (now (store .exit)) (now (index .entry)) (now (marks .exit)) ⌝ }
     ensures { λ r. ⌜ (r .refusal ≡ 0 → Appended s (now (store .entry)) r (now (store .exit)) w) ⌝ }
+    ensures { λ r. ⌜ (r ≡ afterPut s (now (store .entry)) (now (marks .entry)) w) × (now (store .exit) ≡ storeAfterPut s (now (store .entry)) (now (marks .entry)) w) × (now (marks .exit) ≡ marksAfterPut s (now (store .entry)) (now (marks .entry)) w) ⌝ }
 {
     let at = s.at;
     let k = wide(w);
@@ -178,6 +181,7 @@ pub fn put(s: State, store: &mut [u32], index: &[u32], marks: &mut [u32], w: u32
 pub fn commit(s: State, store: &mut [u32], index: &mut [u32], marks: &[u32]) -> State
     ensures { λ r. ⌜ Keeps s (now (store .entry)) (now (index .entry)) (now (marks .entry)) r (now (store .exit)) (now (index .exit)) (now (marks .entry)) ⌝ }
     ensures { λ r. ⌜ (r .refusal ≡ 0 → Begun s r (now (store .exit))) ⌝ }
+    ensures { λ r. ⌜ (r ≡ afterCommit s (now (store .entry)) (now (index .entry))) × (now (store .exit) ≡ storeAfterCommit s (now (store .entry)) (now (index .entry))) × (now (index .exit) ≡ indexAfterCommit s (now (store .entry)) (now (index .entry))) ⌝ }
 {
     let top = s.top;
     let at = s.at;
@@ -223,6 +227,7 @@ pub fn commit(s: State, store: &mut [u32], index: &mut [u32], marks: &[u32]) -> 
 pub fn admit(s: State, store: &mut [u32], index: &mut [u32], marks: &[u32], id: u32) -> State
     ensures { λ r. ⌜ ((a : List Bool) → Holds a s (now (store .entry)) (now (index .entry)) (now (marks .entry)) → T (begunTrue a (s .top) (s .at) (now (store .entry))) → Holds a r (now (store .exit)) (now (index .exit)) (now (marks .entry))) ⌝ }
     ensures { λ r. ⌜ (r .refusal ≡ 0 → Begun s r (now (store .exit))) ⌝ }
+    ensures { λ r. ⌜ (r ≡ afterCommit (given s id) (now (store .entry)) (now (index .entry))) × (now (store .exit) ≡ storeAfterCommit (given s id) (now (store .entry)) (now (index .entry))) × (now (index .exit) ≡ indexAfterCommit (given s id) (now (store .entry)) (now (index .entry))) ⌝ }
 {
     let mut t = s;
     t.proved = true;
@@ -232,7 +237,7 @@ pub fn admit(s: State, store: &mut [u32], index: &mut [u32], marks: &[u32], id: 
 
 // The places that a clause at c takes, at most as many as the store has; 0 where none can stand.
 fn places(store: &[u32], c: usize) -> usize
-    ensures { λ r. ⌜ r ≤ length (now (store .entry)) ⌝ }
+    ensures { λ r. ⌜ r ≡ placesAt (now (store .entry)) c ⌝ }
 {
     if c == 0 {
         return 0;
@@ -253,6 +258,7 @@ fn places(store: &[u32], c: usize) -> usize
 // The clause of a number is forgotten.
 pub fn forget(s: State, store: &[u32], index: &mut [u32], marks: &[u32], id: u32) -> State
     ensures { λ r. ⌜ Keeps s (now (store .entry)) (now (index .entry)) (now (marks .entry)) r (now (store .entry)) (now (index .exit)) (now (marks .entry)) ⌝ }
+    ensures { λ r. ⌜ (r ≡ afterForget s (now (store .entry)) (now (index .entry)) id) × (now (index .exit) ≡ indexAfterForget (now (index .entry)) id) ⌝ }
 {
     let i = wide(id);
     if index.len() <= i {
@@ -265,23 +271,14 @@ pub fn forget(s: State, store: &[u32], index: &mut [u32], marks: &[u32], id: u32
     r
 }
 
-fn clear(xs: &mut [u32])
-    ensures { λ r. ⌜ ((w : ℕ) → getD (now (xs .exit)) w 0 ≡ 0) ⌝ }
-{
-    let mut i: usize = 0;
-    while i < xs.len() {
-        xs[i] = 0;
-        i += 1;
-    }
-}
-
 // No clause is stored, no word marked, a clause without words begun.
 pub fn start(index: &mut [u32], marks: &mut [u32]) -> State
     ensures { λ r. ⌜ ((a : List Bool) (store : List ℕ) → Holds a r store (now (index .exit)) (now (marks .exit))) ⌝ }
     ensures { λ r. ⌜ (r .refusal ≡ 0) × ((a : List Bool) (store : List ℕ) → begunTrue a (r .top) (r .at) store ≡ false) ⌝ }
+    ensures { λ r. ⌜ (r ≡ firstState) × (now (index .exit) ≡ replicate (length (now (index .entry))) 0) × (now (marks .exit) ≡ replicate (length (now (marks .entry))) 0) ⌝ }
 {
-    clear(index);
-    clear(marks);
+    buffers::clear_words(index);
+    buffers::clear_words(marks);
     State {
         refusal: 0,
         refuted: false,

@@ -16,6 +16,8 @@ use Rattle.model.specs.Model.{zeroModel}
 use Rattle.model.specs.Sheet.{onFirst, linesOf, fieldAt, numberOf, fieldValue, fieldRefusal, fieldNumber, valueAt, isMarkColumn, goodField, formRefusal, headRefusal, withHead, markAt, groupRefusal, groupFrom, withGroup, constraintRefusal, withConstraint, lineRefusal, withLine, readLines, readSheet}
 use Rattle.model.proofs.Lists.{T-true, and-left, and-right, every-range, every-range-ext}
 use Rattle.model.proofs.Words.{word-ext}
+use Rattle.propagation_laws.proofs.Sheets.{accepted-of, order-accepted}
+use Rattle.sheet.specs.Orders.{Orders}
 use Rattle.sheet.specs.Blanks.{sameBytes, blankAndOne, sameField, sameLine, sameButBlanks}
 use Rattle.sheet.proofs.Reading.{lines-next, form-passed}
 
@@ -273,5 +275,5 @@ same-answer a b t =
         )
 
 -- as the reader promises it
-pub promised : (a : List ℕ) (r : SheetRead) → r ≡ readSheet a → (r ≡ readSheet a) × ((b : List ℕ) → T (sameButBlanks a b) → r ≡ readSheet b)
-promised a r e = (e, λ b t. e ∙ same-answer a b t)
+pub promised : (a : List ℕ) (r : SheetRead) → r ≡ readSheet a → (r ≡ readSheet a) × (((b : List ℕ) → T (sameButBlanks a b) → r ≡ readSheet b) × Orders a r)
+promised a r e = (e, ((λ b t. e ∙ same-answer a b t), record { accepted = accepted-of a r e; order = λ o h. order-accepted a o (r .model) h }))

@@ -10,6 +10,7 @@ ghost use Rattle.model.specs.Limits.{limits};
 ghost use Rattle.model.specs.Sheet.{fieldAt, afterSpaces, fieldValue, digitsValue, fieldRefusal, fieldNumber, ifNone, orZero, numberIn, valueAt, formRefusal, headRefusal, markAt, groupRefusal, groupFrom, groupCount, countFrom, constraintFrom, constraintRefusal, lineRefusal, refusedSheet, readSheet};
 ghost use Rattle.sheet.specs.Line.{lineLength, goodMark, plainValue, GroupLine, ConstraintLine};
 ghost use Rattle.sheet.specs.Blanks.{sameButBlanks};
+ghost use Rattle.sheet.specs.Orders.{Orders};
 use model::Constraint;
 use model::Digits;
 use model::Field;
@@ -399,6 +400,7 @@ fn refused(refusal: u32, line: u32) -> SheetRead
 pub fn read_sheet(sheet: &[u8]) -> SheetRead
     ensures { λ r. ⌜ r ≡ readSheet (now (sheet .entry)) ⌝ }
     ensures { λ r. ⌜ ((b : List ℕ) → T (sameButBlanks (now (sheet .entry)) b) → r ≡ readSheet b) ⌝ }
+    ensures { λ r. ⌜ Orders (now (sheet .entry)) r ⌝ }
 {
     let n = sheet.len();
     if Model::SHEET_BYTES < n {

@@ -5,3 +5,4 @@ pub mod Groups
 pub mod Constraints
 pub mod Clauses
 pub mod Closing
+pub mod Draw

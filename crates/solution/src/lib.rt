@@ -11,6 +11,7 @@ ghost use Rattle.model.specs.Limits.{limits};
 ghost use Rattle.model.specs.Cnf.{tableVariables};
 ghost use Rattle.model.specs.Assignment.{isSaid};
 ghost use Rattle.model.specs.Close.{assignmentOf, closed};
+ghost use Rattle.correctness.specs.Entries.{Drawn};
 ghost use Rattle.numbering.specs.Numbering.{firstVariables, firstOutputs, differencesFrom};
 ghost use Rattle.solution.specs.Holds.{constraintHolds, constraintHoldsAt, clausesHold, refusedClosing};
 use differences::difference_holds;
@@ -130,9 +131,10 @@ fn refused(refusal: u32) -> Closed
     }
 }
 
-// The groups that the values say; or refusal 20, 22, 26, 27 or 28, and zeros.
+// The groups that the values say, which demand 3 calls a draw: `Drawn`; or refusal 20, 22, 26, 27 or 28, and zeros.
 pub fn close(m: Model, r: Reading, values: &[u8]) -> Closed
     ensures { λ a. ⌜ a ≡ closed m r (now (values .entry)) ⌝ }
+    ensures { λ a. ⌜ (a .refusal ≡ 0 → Drawn m a) ⌝ }
 {
     let refusal = propagate::unsettled(m);
     if refusal != 0 {

@@ -5,7 +5,7 @@ use native.Mathlib.Decide.{decLt}
 use native.Mathlib.Omega.{arith}
 use mathlib.Core.Bool.{true, false, _&&_}
 use mathlib.Core.List.{List, [], _∷_, _++_}
-use lib.ListN.{length, getD, set, take, drop, replicate, length-take, length-replicate, drop-of-length-le}
+use lib.ListN.{length, getD, set, take, drop, replicate, length-take, length-replicate, length-set, drop-of-length-le}
 use lib.Seq.{take-all, getD-take, set-getD}
 use Rattle.model.specs.declared.Group.{Group}
 use Rattle.model.specs.declared.Model.{Model}
@@ -16,7 +16,8 @@ use Rattle.model.specs.Model.{zeroGroup, withTable}
 use Rattle.model.specs.Propagate.{sameGroup, sameTable, fixpoint, propagatedAs}
 use Rattle.model.proofs.Lists.{place-set, place-agree, seam-next, seam-end}
 use Rattle.model.proofs.Loops.{drop-next}
-use Rattle.table.specs.Table.{group, zipped, Whole, placesOf}
+use Rattle.table.specs.declared.Table.{Table}
+use Rattle.table.specs.Table.{group, zipped, arraysOf, Whole, placesOf}
 
 -- ---- a place
 
@@ -39,6 +40,22 @@ zipped-length n (x ∷ f) (y ∷ p) [] h a b c d = c
 zipped-length n (x ∷ f) (y ∷ p) (z ∷ l) [] a b c d = d
 zipped-length zero (x ∷ f) (y ∷ p) (z ∷ l) (u ∷ h) a b c d = absurd (omega arith)
 zipped-length (suc n) (x ∷ f) (y ∷ p) (z ∷ l) (u ∷ h) a b c d = ap suc (zipped-length n f p l h (omega arith) (omega arith) (omega arith) (omega arith))
+
+-- the arrays are read off again
+pub zipped-arrays : (n : ℕ) (f p l h : List ℕ) → length f ≡ n → length p ≡ n → length l ≡ n → length h ≡ n
+    → arraysOf (zipped f p l h) ≡ record { fixed = f; possible = p; low = l; high = h }
+unfolding zipped arraysOf
+zipped-arrays n [] [] [] [] a b c d = refl
+zipped-arrays n [] [] [] (u ∷ h) a b c d = absurd (omega arith)
+zipped-arrays n [] [] (z ∷ l) h a b c d = absurd (omega arith)
+zipped-arrays n [] (y ∷ p) l h a b c d = absurd (omega arith)
+zipped-arrays n (x ∷ f) [] l h a b c d = absurd (omega arith)
+zipped-arrays n (x ∷ f) (y ∷ p) [] h a b c d = absurd (omega arith)
+zipped-arrays n (x ∷ f) (y ∷ p) (z ∷ l) [] a b c d = absurd (omega arith)
+zipped-arrays zero (x ∷ f) (y ∷ p) (z ∷ l) (u ∷ h) a b c d = absurd (omega arith)
+zipped-arrays (suc n) (x ∷ f) (y ∷ p) (z ∷ l) (u ∷ h) a b c d =
+    ap {B = Table} (λ t. record { fixed = x ∷ t .fixed; possible = y ∷ t .possible; low = z ∷ t .low; high = u ∷ t .high })
+    (zipped-arrays n f p l h (omega arith) (omega arith) (omega arith) (omega arith))
 
 -- a store to each
 pub zipped-set : (f p l h : List ℕ) (i a b c d : ℕ)
@@ -88,24 +105,41 @@ zipped-zero zero = refl
 zipped-zero (suc n) = ap {B = List Group} (λ l. group 0 0 0 0 ∷ l) (zipped-zero n)
 
 -- the first i are read
-abbrev pub Read : List Group → ℕ → List ℕ → List ℕ → List ℕ → List ℕ → Type 0
-Read gs i f p l h = zipped f p l h ≡ take i gs ++ drop i (replicate (limits .groups) zeroGroup)
+pub record Read (gs : List Group) (i : ℕ) (f p l h : List ℕ) : Type 0 where
+  pub groups : zipped f p l h ≡ take i gs ++ drop i (replicate (limits .groups) zeroGroup)
+  pub f-length : length f ≡ limits .groups
+  pub p-length : length p ≡ limits .groups
+  pub l-length : length l ≡ limits .groups
+  pub h-length : length h ≡ limits .groups
 
 pub read-none : (gs : List Group) → Read gs 0 (replicate (limits .groups) 0) (replicate (limits .groups) 0) (replicate (limits .groups) 0) (replicate (limits .groups) 0)
-read-none gs = zipped-zero (limits .groups)
+read-none gs =
+    let zeros = length-replicate {A = ℕ} (limits .groups) 0 in
+    record { groups = zipped-zero (limits .groups); f-length = zeros; p-length = zeros; l-length = zeros; h-length = zeros }
 
 module _ (gs : List Group) (w : Whole gs) (i : ℕ) (f p l h : List ℕ) (inv : Read gs i f p l h) where
   pub read-next : i < limits .groups → (d : Group)
       → Read gs (i + 1) (set f i (getD gs i d .fixed)) (set p i (getD gs i d .possible)) (set l i (getD gs i d .low)) (set h i (getD gs i d .high))
   read-next k d =
       let g = getD gs i d in
-      zipped-set f p l h i (g .fixed) (g .possible) (g .low) (g .high)
-      ∙ place-set i (λ x. g) (zipped f p l h) zeroGroup
-      ∙ ap (λ (x : List Group). set x i g) inv
-      ∙ seam-next gs (replicate (limits .groups) zeroGroup) i d (omega arith) (omega (arith, length-replicate (limits .groups) zeroGroup))
+      record {
+        groups =
+            zipped-set f p l h i (g .fixed) (g .possible) (g .low) (g .high)
+            ∙ place-set i (λ x. g) (zipped f p l h) zeroGroup
+            ∙ ap (λ (x : List Group). set x i g) (inv .groups)
+            ∙ seam-next gs (replicate (limits .groups) zeroGroup) i d (omega arith) (omega (arith, length-replicate (limits .groups) zeroGroup));
+        f-length = length-set f i (g .fixed) ∙ inv .f-length;
+        p-length = length-set p i (g .possible) ∙ inv .p-length;
+        l-length = length-set l i (g .low) ∙ inv .l-length;
+        h-length = length-set h i (g .high) ∙ inv .h-length;
+      }
 
   pub read-all : limits .groups ≤ i → zipped f p l h ≡ gs
-  read-all k = inv ∙ seam-end gs (replicate (limits .groups) zeroGroup) i (omega arith) (omega (arith, length-replicate (limits .groups) zeroGroup))
+  read-all k = inv .groups ∙ seam-end gs (replicate (limits .groups) zeroGroup) i (omega arith) (omega (arith, length-replicate (limits .groups) zeroGroup))
+
+  pub read-arrays : limits .groups ≤ i → record { fixed = f; possible = p; low = l; high = h } ≡ arraysOf gs
+  read-arrays k =
+      sym (zipped-arrays (limits .groups) f p l h (inv .f-length) (inv .p-length) (inv .l-length) (inv .h-length)) ∙ ap arraysOf (read-all k)
 
 -- ---- loops that look at the first s groups
 

@@ -1,7 +1,7 @@
 -- The table of groups as four arrays, which is how the code keeps it while it is settled.
 use Prim.Native.Nat.{ℕ, min}
 use mathlib.Core.Path.{_≡_}
-use mathlib.Core.List.{List, [], _∷_}
+use mathlib.Core.List.{List, [], _∷_, map}
 use lib.ListN.{length}
 use Rattle.model.specs.declared.Group.{Group}
 use Rattle.model.specs.Limits.{limits}
@@ -20,6 +20,15 @@ zipped (f ∷ fs) (p ∷ ps) (l ∷ ls) (h ∷ hs) = group f p l h ∷ zipped fs
 
 unfoldable pub groupsIn : Table → List Group
 groupsIn t = zipped (t .fixed) (t .possible) (t .low) (t .high)
+
+-- the four lists of a table's groups
+unfoldable pub arraysOf : List Group → Table
+arraysOf t = record {
+  fixed = map (λ g. g .fixed) t;
+  possible = map (λ g. g .possible) t;
+  low = map (λ g. g .low) t;
+  high = map (λ g. g .high) t;
+}
 
 -- every place is there
 abbrev pub Whole : List Group → Type 0

@@ -5,7 +5,7 @@ ghost use Prim.Native.Nat.{_≤_};
 ghost use lib.ListN.{length, take, drop};
 ghost use Rattle.model.specs.Limits.{limits};
 ghost use Rattle.model.specs.Propagate.{consistent, sameTable, fixpoint, propagatedAs};
-ghost use Rattle.table.specs.Table.{groupsIn, Whole, placesOf};
+ghost use Rattle.table.specs.Table.{groupsIn, arraysOf, Whole, placesOf};
 use model::Group;
 use model::Model;
 use model::Propagated;
@@ -21,7 +21,7 @@ pub struct Table {
 // ---- a model's groups as arrays, and back
 
 pub fn unpacked(groups: [Group; Model::GROUPS]) -> Table
-    ensures { λ r. ⌜ Whole groups × (groupsIn r ≡ groups) ⌝ }
+    ensures { λ r. ⌜ Whole groups × (groupsIn r ≡ groups) × (r ≡ arraysOf groups) ⌝ }
 {
     let mut fixed = [0u64; Model::GROUPS];
     let mut possible = [0u64; Model::GROUPS];

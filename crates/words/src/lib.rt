@@ -4,7 +4,7 @@ ghost use mathlib.Core.List.{map};
 ghost use Prim.Native.Nat.{_≤_, _<_};
 ghost use Rattle.model.specs.Lists.{range};
 ghost use Rattle.model.specs.Limits.{limits};
-ghost use Rattle.words.specs.Words.{wordAt, numberAt, groupFrom, membersFrom, constraintFrom, setsFrom, modelFrom};
+ghost use Rattle.words.specs.Words.{wordAt, numberAt, groupFrom, membersFrom, constraintFrom, setsFrom, modelOf, modelFrom, HandedOver};
 use model::Constraint;
 use model::Group;
 use model::Model;
@@ -19,12 +19,15 @@ fn word_at(words: &[u64], i: usize) -> u64
     0
 }
 
-// Its last 32 bits.
+// A number of 32 bits; a word that they do not hold is the largest of them, out of every range.
 fn number_at(words: &[u64], i: usize) -> u32
     ensures { λ r. ⌜ r ≡ numberAt (now (words .entry)) i ⌝ }
 {
     let w = word_at(words, i);
-    (w % 4294967296) as u32
+    if w < 4294967296 {
+        return w as u32;
+    }
+    4294967295
 }
 
 fn group_from(words: &[u64], i: usize) -> Group
@@ -114,9 +117,8 @@ pub fn sets_from(words: &[u64]) -> [u64; Model::GROUPS]
     sets
 }
 
-// A model out of range, too, so that a caller can have it refused.
-pub fn model_from(words: &[u64]) -> Model
-    ensures { λ r. ⌜ r ≡ modelFrom (now (words .entry)) ⌝ }
+fn model_of(words: &[u64]) -> Model
+    ensures { λ r. ⌜ r ≡ modelOf (now (words .entry)) ⌝ }
 {
     Model {
         n: number_at(words, 0),
@@ -125,4 +127,15 @@ pub fn model_from(words: &[u64]) -> Model
         groups: groups_from(words),
         constraints: constraints_from(words),
     }
+}
+
+// A model out of range, too, so that a caller can have it refused; fewer words than a model has are none.
+pub fn model_from(words: &[u64]) -> Model
+    ensures { λ r. ⌜ r ≡ modelFrom (now (words .entry)) ⌝ }
+    ensures { λ r. ⌜ HandedOver (now (words .entry)) r ⌝ }
+{
+    if words.len() < packing::MODEL_WORDS {
+        return model_of(&words[..0]);
+    }
+    model_of(words)
 }

@@ -25,7 +25,18 @@ pub fn lines(random: &mut Random, length: usize) -> Vec<Vec<u8>> {
 
 /// Every variable said once, over several lines, with a closing 0, and some lines between that do not belong.
 fn whole_answer(random: &mut Random, length: usize) -> Vec<Vec<u8>> {
-    let mut literals: Vec<i64> = (1..=length as i64).map(|variable| if random.chance(50) { variable } else { -variable }).collect();
+    let literals = (1..=length as i64).map(|variable| if random.chance(50) { variable } else { -variable }).collect();
+    in_lines(random, literals)
+}
+
+/// What the marks say, in the same way.
+pub fn saying(random: &mut Random, marks: &[u8]) -> Vec<Vec<u8>> {
+    let literals = (1..).zip(marks).map(|(variable, &mark)| if mark == 1 { variable } else { -variable }).collect();
+    in_lines(random, literals)
+}
+
+fn in_lines(random: &mut Random, mut literals: Vec<i64>) -> Vec<Vec<u8>> {
+    let length = literals.len();
     if random.chance(50) {
         random.shuffle(&mut literals);
     }

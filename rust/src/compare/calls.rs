@@ -24,7 +24,9 @@ pub trait Calls {
     fn line(&self, closed: u32, line: &[u8], marks: &mut [u8]) -> u32;
     /// the refusal; the table gets 256 groups, and 24 is a table without room for them
     fn close(&self, sheet: &[u8], closed: u32, marks: &[u8], groups: &mut [u64]) -> u32;
-    /// the refusal; a missing word of the groups is 0
+    /// a solver's whole output: refusal * 65536 + line of the sheet; the table gets 256 groups, and 24 is a table without room for them
+    fn answer(&self, sheet: &[u8], output: &[u8], groups: &mut [u64]) -> u64;
+    /// the refusal; fewer words than groups are no draw, 30
     fn fill(&self, sheet: &[u8], groups: &[u64], marks: &mut [u8]) -> u32;
     /// settling, a block, closing and filling, of a model as words in place of a settled sheet
     fn settle_model(&self, words: &[u64], table: &mut [u64]) -> u64;
@@ -106,10 +108,24 @@ fn combine_words(model: Result<Model, u32>, words: &mut [u64]) -> Result<(), u32
 
 fn close_number(settled: Result<Settled, u32>, closed: u32, marks: &[u8], groups: &mut [u64]) -> Result<(), u32> {
     let drawn = close::close(&Encoding::of(&settled?), closed != 0, marks)?;
+    put_groups(&drawn, groups)
+}
+
+fn put_groups(drawn: &[u64], groups: &mut [u64]) -> Result<(), u32> {
     let table = groups.get_mut(..GROUPS as usize).ok_or(SHORT_BUFFER)?;
     table.fill(0);
-    table[..drawn.len()].copy_from_slice(&drawn);
+    table[..drawn.len()].copy_from_slice(drawn);
     Ok(())
+}
+
+/// Groups where the sheet is accepted and settles, and the lines that are not refused say a satisfying assignment and a closing 0; else the refusal and its line.
+fn answer_number(sheet: &[u8], output: &[u8], groups: &mut [u64]) -> Result<(), (u32, u32)> {
+    let model = read(sheet).map_err(|refused| (refused.number, refused.line))?;
+    let settled = settle(model).ok_or((CONTRADICTION, 0))?;
+    let encoding = Encoding::of(&settled);
+    let (closed, marks) = answer::read_lines(output, encoding.variables, &mut |_, _| {});
+    let drawn = close::close(&encoding, closed, &marks).map_err(|number| (number, 0))?;
+    put_groups(&drawn, groups).map_err(|number| (number, 0))
 }
 
 fn fill_number(settled: Result<Settled, u32>, groups: &[u64], marks: &mut [u8]) -> u32 {
@@ -154,6 +170,13 @@ impl Calls for Counterpart {
 
     fn close(&self, sheet: &[u8], closed: u32, marks: &[u8], groups: &mut [u64]) -> u32 {
         close_number(settled(sheet), closed, marks, groups).err().unwrap_or(0)
+    }
+
+    fn answer(&self, sheet: &[u8], output: &[u8], groups: &mut [u64]) -> u64 {
+        match answer_number(sheet, output, groups) {
+            Ok(()) => 0,
+            Err((number, line)) => u64::from(number) << 16 | u64::from(line),
+        }
     }
 
     fn fill(&self, sheet: &[u8], groups: &[u64], marks: &mut [u8]) -> u32 {

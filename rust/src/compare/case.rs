@@ -1,4 +1,5 @@
 //! One case of the comparison: a call's input, the kind of case it is, and whether both sides answer alike.
+use super::answering::{self, AnswerCase};
 use super::blanks;
 use super::calls::{settled, Calls, Counterpart};
 use super::certificates::{self, CertificateCase};
@@ -11,6 +12,7 @@ use super::models::{self, ModelCase};
 use super::steps;
 use super::twins::{self, TwinCase};
 use super::wide;
+use super::words;
 use crate::encode::{Encoding, Part};
 use crate::listing::listing;
 use crate::model::{BLOCK_BYTES, GROUPS, MOST_VARIABLES};
@@ -54,6 +56,7 @@ pub enum Case {
         marks: Vec<u8>,
         room: usize,
     },
+    Answer(AnswerCase),
     Fill(FillCase),
     Model(ModelCase),
     Certificate(CertificateCase),
@@ -82,6 +85,8 @@ pub fn kinds() -> impl Iterator<Item = Kind> {
         .chain(combining::kinds())
         .chain([code_7::KINDS, wide::KINDS].into_iter().flatten().copied())
         .chain(edges::kinds())
+        .chain(answering::KINDS.iter().copied())
+        .chain(words::KINDS.iter().copied())
 }
 
 const KINDS: &[Kind] = &[
@@ -215,6 +220,7 @@ pub fn check(case: &Case, other: &dyn Calls) -> Outcome {
         Case::Count { sheet } => edges::check_count(sheet, other, &mut outcome),
         Case::Lines { marks, lines } => check_lines(marks, lines, other, &mut outcome),
         Case::Close { sheet, closed, marks, room } => check_close(sheet, *closed, marks, *room, other, &mut outcome),
+        Case::Answer(answer) => answer.check(other, &mut outcome),
         Case::Fill(fill) => fill.check(other, &mut outcome),
         Case::Model(model) => model.check(other, &mut outcome),
         Case::Certificate(certificate) => certificate.check(other, &mut outcome),
@@ -471,6 +477,7 @@ impl Case {
         match self {
             Case::Read { sheet } | Case::Settle { sheet, .. } | Case::Block { sheet, .. } | Case::Blocks { sheet, .. } => Some(sheet),
             Case::Close { sheet, .. } | Case::Steps { sheet } | Case::Count { sheet } => Some(sheet),
+            Case::Answer(answer) => Some(&answer.sheet),
             Case::Fill(fill) => Some(&fill.sheet),
             Case::Certificate(certificate) => Some(&certificate.sheet),
             Case::Twins(twins) => twins.case.sheet(),
@@ -514,6 +521,7 @@ impl Case {
                 }
                 *sheet = new;
             }
+            Case::Answer(answer) => answer.sheet = new,
             Case::Fill(fill) => *fill = fill.with_sheet(new),
             Case::Certificate(certificate) => *certificate = certificate.with_sheet(new),
             Case::Twins(twins) => *twins = twins.with_sheet(new),
@@ -531,6 +539,7 @@ impl Case {
             Case::Block { sheet, block, spare } => format!("block {block}, buffer of the block's length{spare:+}\n{}", show_sheet(sheet)),
             Case::Blocks { sheet, from, rooms } => format!("runs of blocks from {from}, buffers of {rooms:?} bytes\n{}", show_sheet(sheet)),
             Case::Count { sheet } => format!("number of blocks\n{}", show_sheet(sheet)),
+            Case::Answer(answer) => answer.show(),
             Case::Fill(fill) => fill.show(),
             Case::Model(model) => model.show(),
             Case::Certificate(certificate) => certificate.show(),

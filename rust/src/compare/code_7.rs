@@ -7,7 +7,7 @@ use crate::fill::{assignment, is_draw};
 use crate::model::*;
 use crate::refusal::*;
 use crate::settle::{all_alike, contradictory, group_rules, limit_rules, mark_rules, settle, Settled};
-use crate::words::{field_at, from_words, Field, FIRST_LINE, LINE_WORDS};
+use crate::words::{field_at, from_words, number, Field, FIRST_LINE, LINE_WORDS};
 
 /// In the order of the report.
 pub const KINDS: &[Kind] = &[
@@ -361,7 +361,7 @@ fn row(words: &[u64], index: usize) -> &[u64] {
 /// Whether some line of code 7 has a count, and whether one has words past its groups.
 fn ignored(words: &[u64], model: &Model) -> [bool; 2] {
     let any = |places: std::ops::Range<usize>| {
-        let not_zero = |index: usize| row(words, index).iter().skip(places.start).take(places.len()).any(|&word| word as u32 != 0);
+        let not_zero = |index: usize| row(words, index).iter().skip(places.start).take(places.len()).any(|&word| word != 0);
         model.constraints.iter().enumerate().any(|(index, line)| line.code == 7 && not_zero(index))
     };
     [any(1..2), any(4..LINE_WORDS)]
@@ -383,11 +383,11 @@ pub fn words(words: &[u64], damaged: Option<usize>) -> Vec<Kind> {
 
 fn damage(words: &[u64], place: usize) -> Option<Kind> {
     let (field, index) = field_at(place);
-    match (field, words[place] as u32) {
+    match (field, number(*words.get(place)?)) {
         (Field::Code, 0) => Some("different: model, 20 code 0"),
         (Field::Code, 8) => Some("different: model, 20 code 8"),
-        (Field::Member, number) if row(words, index)[0] as u32 == 7 => {
-            let in_range = (1..=words[1] as u32).contains(&number);
+        (Field::Member, group) if row(words, index)[0] == 7 => {
+            let in_range = (1..=number(words[1])).contains(&group);
             Some(if in_range { "different: model, 20 group twice" } else { "different: model, 20 group out of range" })
         }
         _ => None,

@@ -18,7 +18,7 @@ use crate::model::*;
 use crate::refusal::*;
 use crate::settle::settle;
 use crate::sheet;
-use crate::words::{from_words, group_at, to_words, FIRST_LINE, LINE_WORDS, WORDS};
+use crate::words::{from_words, group_at, number, to_words, FIRST_LINE, LINE_WORDS, WORDS};
 
 /// Two sheets.
 #[derive(Clone, Debug)]
@@ -112,7 +112,8 @@ const WORDS_KINDS: &[Kind] = &[
     "combine words: past a line's groups not zero",
     "combine words: a count of codes 1 to 5",
     "combine words: a clash past s alone",
-    "combine words: words missing",
+    "combine words: 20 by words missing in the first",
+    "combine words: 20 by words missing in the second",
     "combine words: words past the model",
     "combine words: 20 in the first",
     "combine words: 20 in the second",
@@ -353,6 +354,8 @@ impl CombineWordsCase {
             note(first.is_none() && second.is_some(), "combine words: 20 in the first");
             note(first.is_some() && second.is_none(), "combine words: 20 in the second");
             note(first.is_none() && second.is_none(), "combine words: 20 in both");
+            note(second.is_some() && self.words[0].len() < WORDS, "combine words: 20 by words missing in the first");
+            note(first.is_some() && self.words[1].len() < WORDS, "combine words: 20 by words missing in the second");
             let behind = behind_20(&self.words[0], &self.words[1]);
             note(behind == Some(OTHER_SIZE), "combine words: 20 before 31");
             note(behind == Some(CLASH), "combine words: 20 before 32");
@@ -374,7 +377,7 @@ impl CombineWordsCase {
         let mut note = |really: bool, kind: Kind| outcome.kinds.extend(really.then_some(kind));
         for (model, words) in models.iter().zip(&self.words) {
             let (s, c) = (model.groups.len(), model.constraints.len());
-            let word = |at: usize| words.get(at).copied().unwrap_or(0) as u32;
+            let word = |at: usize| words[at];
             let start = |line: usize| FIRST_LINE + LINE_WORDS * line;
             let lines = || model.constraints.iter().enumerate();
             note((s..GROUPS as usize).any(|index| group_at(words, index) != EMPTY), "combine words: past s not zero");
@@ -382,7 +385,6 @@ impl CombineWordsCase {
             let past = |(at, line): (usize, &Constraint)| (start(at) + 2 + line.groups.len()..start(at + 1)).any(|at| word(at) != 0);
             note(lines().any(past), "combine words: past a line's groups not zero");
             note(lines().any(|(at, line)| line.code < 6 && word(start(at) + 1) != 0), "combine words: a count of codes 1 to 5");
-            note(words.len() < WORDS, "combine words: words missing");
             note(words.len() > WORDS, "combine words: words past the model");
         }
         let [first, second] = &self.words;
@@ -422,7 +424,7 @@ fn check_words(model: &Model, words: &[u64], other: &dyn Calls, outcome: &mut Ou
 
 /// The refusal that two models' words would have if 20 were not judged, where both heads are in range.
 fn behind_20(first: &[u64], second: &[u64]) -> Option<u32> {
-    let head = |words: &[u64]| [0, 1, 2].map(|at| words.get(at).copied().unwrap_or(0) as u32);
+    let head = |words: &[u64]| [0, 1, 2].map(|at| number(words.get(at).copied().unwrap_or(0)));
     let (one, other) = (head(first), head(second));
     if [one, other].iter().any(|&[n, s, c]| !sizes_in_range(n, s, c)) {
         return None;
@@ -485,7 +487,7 @@ fn words_case(random: &mut Random, pair: &Pair) -> CombineWordsCase {
             words[place] = damage(random, words[place]);
         }
         match random.below(20) {
-            0 => words.truncate(FIRST_LINE + LINE_WORDS * model.constraints.len()),
+            0 => words.truncate((FIRST_LINE + LINE_WORDS * model.constraints.len()).min(WORDS - 1)),
             1 => words.extend(junk_words(3)),
             _ => {}
         }

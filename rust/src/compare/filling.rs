@@ -5,6 +5,7 @@ use super::code_7;
 use super::random::Random;
 use super::wide;
 use crate::encode::Encoding;
+use crate::fill::is_draw;
 use crate::model::*;
 use crate::refusal::*;
 use crate::settle::Settled;
@@ -54,7 +55,6 @@ const KINDS: &[Kind] = &[
     "fill: as many variables as with 32 entrants",
     "fill: as many variables as without code 7",
     "fill: a change that leaves a draw",
-    "fill: words missing, their groups empty",
     "fill: words past s ignored",
     "fill: words past 256 ignored",
     "fill: closing gives the groups again",
@@ -69,6 +69,9 @@ const KINDS: &[Kind] = &[
     "fill: 30 an entrant moved",
     "fill: 30 an entrant past n",
     "fill: 30 words missing",
+    "fill: 30 no words",
+    "fill: 30 one word short",
+    "fill: 30 by missing words of empty groups alone",
     "fill: 30 before 26",
     "fill: 30 by an entrant past n alone",
     "fill: 30 by a fixed entrant alone",
@@ -122,7 +125,6 @@ impl FillCase {
         note(encoding.variables == NARROW_VARIABLES, "fill: as many variables as with 32 entrants");
         note(encoding.variables == MOST_WITHOUT_CODE_7, "fill: as many variables as without code 7");
         note(!matches!(self.origin, Origin::Draw | Origin::AnySets), "fill: a change that leaves a draw");
-        note(self.groups.len() < s, "fill: words missing, their groups empty");
         note(self.groups.len() > s, "fill: words past s ignored");
         note(self.groups.len() > GROUPS as usize, "fill: words past 256 ignored");
         code_7::filled(&encoding).into_iter().chain(wide::filled(&encoding, &self.groups)).for_each(|kind| outcome.note(kind));
@@ -137,8 +139,13 @@ impl FillCase {
             Origin::WordsMissing => "fill: 30 words missing",
             Origin::Draw | Origin::AnySets => "fill: 30 any sets",
         });
-        outcome.kinds.extend(wide::not_filled(settled.model(), &self.groups));
-        let faults: Vec<Kind> = faults(settled.model(), &self.groups).into_iter().collect();
+        let s = settled.model().groups.len();
+        outcome.kinds.extend(self.groups.is_empty().then_some("fill: 30 no words"));
+        outcome.kinds.extend((self.groups.len() + 1 == s).then_some("fill: 30 one word short"));
+        let padded = padded(&self.groups, s);
+        outcome.kinds.extend(is_draw(settled.model(), &padded).then_some("fill: 30 by missing words of empty groups alone"));
+        outcome.kinds.extend(wide::not_filled(settled.model(), &padded));
+        let faults: Vec<Kind> = faults(settled.model(), &padded).into_iter().collect();
         if let [alone] = faults[..] {
             outcome.note(alone);
         }
@@ -191,11 +198,18 @@ pub fn marks_length(settled: Option<&Settled>, spare: isize) -> usize {
     settled.map_or(4, |settled| Encoding::of(settled).variables).saturating_add_signed(spare)
 }
 
+/// Words with zeros for those that are missing.
+pub fn padded(groups: &[u64], many: usize) -> Vec<u64> {
+    let mut padded = groups.to_vec();
+    padded.resize(groups.len().max(many), 0);
+    padded
+}
+
 /// In which ways groups are no draw of a model.
 fn faults(model: &Model, groups: &[u64]) -> BTreeSet<Kind> {
     let mut faults: BTreeSet<Kind> = model.constraints.iter().filter(|line| !line.is_true(groups)).map(|line| BY_CODE[line.code as usize - 1]).collect();
     for (index, group) in model.groups.iter().enumerate() {
-        let set = groups.get(index).copied().unwrap_or(0);
+        let set = groups[index];
         let many = set.count_ones();
         let mut note = |really: bool, kind: Kind| faults.extend(really.then_some(kind));
         note(set & !model.everyone() != 0, "fill: 30 by an entrant past n alone");
@@ -224,6 +238,12 @@ pub fn largest(random: &mut Random) -> FillCase {
     let model = Model { entrants: n, groups: vec![group; groups], constraints: (0..groups).map(ring).collect() };
     let set = random.set(n, 50) & !1 | 2;
     case(random, sheet::write(&model), Some(&vec![set; groups]))
+}
+
+/// A case on the words of a draw, cut or with more behind them, so that there are so many.
+pub fn of_words(sheet: &[u8], draw: &[u64], many: usize) -> FillCase {
+    let groups = draw.iter().copied().chain(junk_words(many)).take(many).collect();
+    FillCase { sheet: sheet.to_vec(), groups, origin: if many < draw.len() { Origin::WordsMissing } else { Origin::Draw }, spare: 0 }
 }
 
 /// Mostly as many marks as there are variables; one more, one fewer, none.

@@ -1,4 +1,5 @@
 //! Comparison of the proved code with this crate, case by case.
+pub mod answering;
 pub mod answers;
 pub mod blanks;
 pub mod calls;
@@ -21,3 +22,4 @@ pub mod shrink;
 pub mod steps;
 pub mod twins;
 pub mod wide;
+pub mod words;

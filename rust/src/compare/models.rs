@@ -1,13 +1,13 @@
-//! Models as words, whole and damaged in one word, for settling, a block, closing, filling and the model's sheet.
+//! Models as words, whole, damaged in one word or cut short, for settling, a block, closing, filling and the model's sheet.
 use super::calls::{given, Calls, Counterpart};
 use super::case::{junk, junk_words, Kind, Outcome};
 use super::code_7;
 use super::filling::{self, marks_length, Origin};
 use super::limits::{unsettled_alone, widened};
 use super::random::Random;
-use super::{edges, wide};
+use super::{edges, wide, words};
 use crate::encode::{blocks_of, Encoding};
-use crate::fill::assignment;
+use crate::fill::{assignment, is_draw};
 use crate::model::{Model, BLOCK_BYTES};
 use crate::refusal::*;
 use crate::settle::settle;
@@ -88,6 +88,7 @@ pub const KINDS: &[Kind] = &[
     "model: 22 of filling from other groups",
     "model: 22 of filling by limits alone",
     "model: 30 of filling",
+    "model: 30 of filling by missing words alone",
     "model: 26 of filling",
     "model: sheet",
     "model: sheet in a buffer exactly long enough",
@@ -97,6 +98,9 @@ pub const KINDS: &[Kind] = &[
 
 /// The kind of a damage, where the model is refused or stays the same.
 fn damage_kind(words: &[u64], place: usize) -> Option<Kind> {
+    if words.len() < WORDS {
+        return None;
+    }
     if from_words(words).is_ok() {
         let unused = from_words(&with(words, place, words[place] ^ 1 << 40 ^ 1)) == from_words(words);
         return unused.then_some(KINDS[0]);
@@ -126,7 +130,8 @@ impl ModelCase {
         if let Some(kind) = self.damaged.and_then(|place| damage_kind(&self.words, place)) {
             outcome.note(kind);
         }
-        code_7::words(&self.words, self.damaged).into_iter().chain(wide::words(&self.words)).for_each(|kind| outcome.note(kind));
+        let kinds = code_7::words(&self.words, self.damaged).into_iter().chain(wide::words(&self.words)).chain(words::kinds(&self.words, self.damaged));
+        kinds.for_each(|kind| outcome.note(kind));
         match &self.call {
             Call::Settle { room } => self.check_settle(*room, other, outcome),
             Call::Block { block, spare } => self.check_block(*block, *spare, other, outcome),
@@ -201,6 +206,7 @@ impl ModelCase {
             UNSETTLED if unsettled_alone(&self.words) => "model: 22 of filling by limits alone",
             UNSETTLED if draw => "model: 22 of filling from a draw",
             UNSETTLED => "model: 22 of filling from other groups",
+            NO_DRAW if missing_alone(&self.words, groups) => "model: 30 of filling by missing words alone",
             NO_DRAW => "model: 30 of filling",
             _ => "model: 26 of filling",
         });
@@ -237,6 +243,11 @@ impl ModelCase {
     }
 }
 
+/// Whether the words of groups that are missing, all of them empty, would make a draw.
+fn missing_alone(words: &[u64], groups: &[u64]) -> bool {
+    from_words(words).is_ok_and(|model| groups.len() < model.groups.len() && is_draw(&model, &filling::padded(groups, model.groups.len())))
+}
+
 /// A case on the model of a sheet, as it is or settled, or with one limit wider again, often with one word changed.
 pub fn case(random: &mut Random, sheet: &[u8], draw: Option<&[u64]>) -> Option<ModelCase> {
     let read = sheet::read(sheet).ok()?;
@@ -268,6 +279,20 @@ pub fn of_words(random: &mut Random, model: &Model, words: Vec<u64>, damaged: Op
         _ => closing(random, &words, draw),
     };
     ModelCase { words, damaged, call }
+}
+
+/// A case of each call on the words of a model.
+pub fn of_every_call(random: &mut Random, model: &Model, words: &[u64], damaged: Option<usize>, draw: Option<&[u64]>) -> Vec<ModelCase> {
+    let groups = draw.map_or_else(|| vec![0; model.groups.len()], <[u64]>::to_vec);
+    let calls = [
+        Call::Settle { room: 4 * model.groups.len() },
+        Call::Block { block: 0, spare: 0 },
+        Call::Write { spare: 0 },
+        Call::Fill { groups, origin: if draw.is_some() { Origin::Draw } else { Origin::AnySets }, spare: 0 },
+        closing(random, words, draw),
+        Call::Count,
+    ];
+    calls.into_iter().map(|call| ModelCase { words: words.to_vec(), damaged, call }).collect()
 }
 
 /// A case on words, in range or not, of a model of so many groups: settling or the number of its blocks.

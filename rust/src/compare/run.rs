@@ -5,7 +5,7 @@ use super::random::Random;
 use super::sheets::Sample;
 use super::shrink::shrink;
 use super::twins::TwinCase;
-use super::{answers, blanks, certificates, combining, differences, filling, limits, models, samples, sheets, steps, wide};
+use super::{answering, answers, blanks, certificates, combining, differences, filling, limits, models, samples, sheets, steps, wide, words};
 use crate::encode::Encoding;
 use crate::fill::assignment;
 use crate::listing::listing;
@@ -24,11 +24,13 @@ pub struct Tally {
 /// Compares until so many calls are made. `say` gets what there is to print.
 pub fn run(other: &dyn Calls, seed: u64, calls: u64, say: &mut dyn FnMut(&str)) -> Tally {
     let mut random = Random(seed);
-    // pairs of sheets, sheets with lines of code 7, and sheets of more entrants with the edges of blocks have numbers of their own, so that the other
-    // cases stay what they were
+    // pairs of sheets, sheets with lines of code 7, sheets of more entrants with the edges of blocks, whole outputs, and words that no model has get numbers
+    // of their own, so that the other cases stay what they were
     let mut of_pairs = Random(!seed);
     let mut of_differences = Random(seed.rotate_left(32));
     let mut of_wide = Random(seed.rotate_left(16));
+    let mut of_outputs = Random(!seed.rotate_left(16));
+    let mut of_words = Random(seed.rotate_left(48));
     let mut tally = Tally::default();
     for case in samples::cases() {
         take(&case, other, &mut tally, say);
@@ -42,7 +44,9 @@ pub fn run(other: &dyn Calls, seed: u64, calls: u64, say: &mut dyn FnMut(&str)) 
         let pairs = if of_pairs.chance(30) { combining::cases(&mut of_pairs, 0) } else { Vec::new() };
         let differences = if of_differences.chance(30) { differences::cases(&mut of_differences) } else { Vec::new() };
         let wide = if of_wide.chance(30) { wide::cases(&mut of_wide) } else { Vec::new() };
-        for case in batch(&mut random).into_iter().chain(pairs).chain(differences).chain(wide) {
+        let outputs = if of_outputs.chance(10) { answering::cases(&mut of_outputs) } else { Vec::new() };
+        let words = if of_words.below(300) == 0 { words::cases(&mut of_words) } else { Vec::new() };
+        for case in batch(&mut random).into_iter().chain(pairs).chain(differences).chain(wide).chain(outputs).chain(words) {
             take(&case, other, &mut tally, say);
         }
         if Instant::now() >= next_word {
@@ -250,9 +254,9 @@ mod tests {
     use crate::model::Model;
     use crate::sheet::{read, write};
     use crate::steps::{counters, dropped, form, put_in, Counter, Node, Outputs, Printed, Value};
-    use crate::words::{from_words, group_at, FIRST_GROUP, FIRST_LINE};
+    use crate::words::{field_at, from_words, group_at, Field, FIRST_GROUP, FIRST_LINE, WORDS};
 
-    const CALLS: u64 = 20_000;
+    const CALLS: u64 = 22_000;
 
     fn outcome(other: &dyn Calls, calls: u64) -> (Tally, String) {
         let mut text = String::new();
@@ -262,7 +266,7 @@ mod tests {
 
     #[test]
     fn no_difference_from_itself_and_every_kind_is_met() {
-        let (tally, text) = outcome(&Counterpart, 3 * CALLS);
+        let (tally, text) = outcome(&Counterpart, 4 * CALLS);
         assert!(tally.failed.is_empty(), "{text}");
         let never: Vec<Kind> = kinds().filter(|kind| !tally.met.contains_key(kind)).collect();
         assert!(never.is_empty(), "never met: {never:?}");
@@ -276,6 +280,7 @@ mod tests {
         block: fn(&[u8], u32, &mut [u8]) -> u64,
         line: fn(u32, &[u8], &mut [u8]) -> u32,
         close: fn(&[u8], u32, &[u8], &mut [u64]) -> u32,
+        answer: fn(&[u8], &[u8], &mut [u64]) -> u64,
         fill: fn(&[u8], &[u64], &mut [u8]) -> u32,
         blocks: fn(&[u8], u32, &mut [u8]) -> u64,
         block_count: fn(&[u8]) -> u64,
@@ -296,6 +301,7 @@ mod tests {
         block: |sheet, block, buffer| Counterpart.block(sheet, block, buffer),
         line: |closed, line, marks| Counterpart.line(closed, line, marks),
         close: |sheet, closed, marks, groups| Counterpart.close(sheet, closed, marks, groups),
+        answer: |sheet, output, groups| Counterpart.answer(sheet, output, groups),
         fill: |sheet, groups, marks| Counterpart.fill(sheet, groups, marks),
         blocks: |sheet, block, buffer| Counterpart.blocks(sheet, block, buffer),
         block_count: |sheet| Counterpart.block_count(sheet),
@@ -325,6 +331,9 @@ mod tests {
         }
         fn close(&self, sheet: &[u8], closed: u32, marks: &[u8], groups: &mut [u64]) -> u32 {
             (self.close)(sheet, closed, marks, groups)
+        }
+        fn answer(&self, sheet: &[u8], output: &[u8], groups: &mut [u64]) -> u64 {
+            (self.answer)(sheet, output, groups)
         }
         fn fill(&self, sheet: &[u8], groups: &[u64], marks: &mut [u8]) -> u32 {
             (self.fill)(sheet, groups, marks)
@@ -556,6 +565,46 @@ mod tests {
             answer => answer,
         };
         is_caught(Broken { close, ..SOUND }, "close: 28 clause false", "close, closed true");
+    }
+
+    #[test]
+    fn an_answer_that_needs_no_closing_0_is_caught() {
+        let answer = |sheet: &[u8], output: &[u8], groups: &mut [u64]| match Counterpart.answer(sheet, output, groups) {
+            answer if answer >> 16 == 27 => Counterpart.answer(sheet, &[output, b"\nv 0\n"].concat(), groups),
+            answer => answer,
+        };
+        is_caught(Broken { answer, ..SOUND }, "answer: 27 no closing 0", "answer, table of");
+    }
+
+    #[test]
+    fn an_answer_that_ends_at_a_refused_line_is_caught() {
+        let answer = |sheet: &[u8], output: &[u8], groups: &mut [u64]| {
+            let variables = settled(sheet).map_or(0, |settled| Encoding::of(&settled).variables);
+            let mut first = None;
+            crate::answer::read_lines(output, variables, &mut |line, _| first = first.or(Some(line)));
+            let lines: Vec<&[u8]> = output.split_inclusive(|&byte| byte == b'\n').collect();
+            Counterpart.answer(sheet, &lines[..first.unwrap_or(lines.len())].concat(), groups)
+        };
+        is_caught(Broken { answer, ..SOUND }, "answer: groups, refused lines between", "answer, table of");
+    }
+
+    #[test]
+    fn an_answer_without_the_line_of_the_sheet_is_caught() {
+        let answer = |sheet: &[u8], output: &[u8], groups: &mut [u64]| Counterpart.answer(sheet, output, groups) >> 16 << 16;
+        is_caught(Broken { answer, ..SOUND }, "answer: sheet refused", "refusal * 65536 + line");
+    }
+
+    /// A refusal leaves the groups.
+    #[test]
+    fn an_answer_that_clears_the_groups_is_caught() {
+        let answer = |sheet: &[u8], output: &[u8], groups: &mut [u64]| {
+            let answer = Counterpart.answer(sheet, output, groups);
+            if answer != 0 {
+                groups.fill(0);
+            }
+            answer
+        };
+        is_caught(Broken { answer, ..SOUND }, "answer: 28 clause false", "groups at 0");
     }
 
     /// What `draw_close` did before it left the words of a refused call.
@@ -941,8 +990,11 @@ mod tests {
 
     #[test]
     fn filling_from_groups_that_are_the_same_is_caught() {
+        fn same(model: &Model, groups: &[u64]) -> bool {
+            groups.len() >= model.groups.len() && model.constraints.iter().all(|line| line.code != 7 || !line.is_true(groups))
+        }
         let fill = |sheet: &[u8], groups: &[u64], marks: &mut [u8]| match Counterpart.fill(sheet, groups, marks) {
-            30 if settled(sheet).is_ok_and(|settled| settled.model().constraints.iter().all(|line| line.code != 7 || !line.is_true(groups))) => 0,
+            30 if settled(sheet).is_ok_and(|settled| same(settled.model(), groups)) => 0,
             answer => answer,
         };
         is_caught(Broken { fill, ..SOUND }, "fill: 30 by code 7 alone", "difference in fill: 30");
@@ -1009,6 +1061,25 @@ mod tests {
         is_caught(Broken { block, ..SOUND }, "steps: node over two nodes", smallest);
     }
 
+    /// What the calls on models did before.
+    #[test]
+    fn numbers_taken_modulo_2_32_and_missing_words_as_zeros_are_caught() {
+        fn modulo(words: &[u64]) -> Vec<u64> {
+            let is_set = |at: usize| matches!(field_at(at).0, Field::Fixed | Field::Possible);
+            words.iter().enumerate().map(|(at, &word)| if is_set(at) { word } else { word % (1 << 32) }).collect()
+        }
+        let settle_model = |words: &[u64], table: &mut [u64]| Counterpart.settle_model(&modulo(words), table);
+        for kind in ["words: 2^32 more, n", "words: 2^63 more, high"] {
+            is_caught(Broken { settle_model, ..SOUND }, kind, "of a model");
+        }
+        let settle_model = |words: &[u64], table: &mut [u64]| Counterpart.settle_model(&filling::padded(words, WORDS), table);
+        for kind in ["words: one short"] {
+            is_caught(Broken { settle_model, ..SOUND }, kind, "of a model");
+        }
+        let fill = |sheet: &[u8], groups: &[u64], marks: &mut [u8]| Counterpart.fill(sheet, &filling::padded(groups, 256), marks);
+        is_caught(Broken { fill, ..SOUND }, "fill: 30 by missing words of empty groups alone", "difference in fill: 30");
+    }
+
     #[test]
     fn a_reader_that_takes_97_groups_of_33_entrants_is_caught() {
         let read = |sheet: &[u8]| match Counterpart.read(sheet) {
@@ -1017,7 +1088,7 @@ mod tests {
         };
         is_caught(Broken { read, ..SOUND }, "wide: 7 33 entrants and 97 groups", "difference in read: 7 range");
         let settle_model = |words: &[u64], table: &mut [u64]| match Counterpart.settle_model(words, table) {
-            answer if answer >> 16 == 20 && words[..2] == [33, 97] => 1,
+            answer if answer >> 16 == 20 && words.starts_with(&[33, 97]) => 1,
             answer => answer,
         };
         is_caught(Broken { settle_model, ..SOUND }, "wide: model, 20 33 entrants and 97 groups", "of a model");

@@ -1,4 +1,5 @@
 //! A greedy shrinker: makes a failing case smaller as long as it fails.
+use super::answering::joined;
 use super::blanks;
 use super::case::Case;
 use crate::model::{Group, Model};
@@ -287,14 +288,17 @@ impl Shrinker<'_> {
     fn lines(&self) -> Vec<Vec<u8>> {
         match &self.best {
             Case::Lines { lines, .. } => lines.clone(),
+            Case::Answer(answer) => answer.lines(),
             _ => Vec::new(),
         }
     }
 
     fn attempt_lines(&mut self, new: Vec<Vec<u8>>) -> bool {
         let mut candidate = self.best.clone();
-        if let Case::Lines { lines, .. } = &mut candidate {
-            *lines = new;
+        match &mut candidate {
+            Case::Lines { lines, .. } => *lines = new,
+            Case::Answer(answer) => answer.output = joined(new),
+            _ => {}
         }
         self.attempt(candidate)
     }

@@ -21,7 +21,7 @@ const READ: [Kind; 10] = [
 ];
 
 /// Sheets in the other calls that take one, accepted and refused.
-const OTHERS: [[Kind; 2]; 8] = [
+const OTHERS: [[Kind; 2]; 9] = [
     ["twins: settle", "twins: settle, sheet refused"],
     ["twins: block", "twins: block, sheet refused"],
     ["twins: blocks", "twins: blocks, sheet refused"],
@@ -30,6 +30,7 @@ const OTHERS: [[Kind; 2]; 8] = [
     ["twins: certify", "twins: certify, sheet refused"],
     ["twins: combine", "twins: combine, first sheet refused"],
     ["twins: count", "twins: count, sheet refused"],
+    ["twins: answer", "twins: answer, sheet refused"],
 ];
 
 pub fn kinds() -> impl Iterator<Item = Kind> {
@@ -89,6 +90,7 @@ impl TwinCase {
             Case::Certificate(_) => 5,
             Case::Combine(_) => 6,
             Case::Count { .. } => 7,
+            Case::Answer(_) => 8,
             _ => return READ[refusal],
         };
         OTHERS[call][usize::from(refusal > 0)]
@@ -125,6 +127,10 @@ fn answer(case: &Case, other: &dyn Calls) -> Vec<u64> {
         Case::Close { sheet, closed, marks, room } => {
             let mut groups = junk_words(*room);
             words(other.close(sheet, (*closed).into(), marks, &mut groups).into(), groups)
+        }
+        Case::Answer(case) => {
+            let mut groups = junk_words(case.room);
+            words(other.answer(&case.sheet, &case.output, &mut groups), groups)
         }
         Case::Fill(fill) => fill.answer(other),
         Case::Certificate(certificate) => certificate.answer(other),

@@ -2,6 +2,7 @@
 use Prim.Native.Nat.{ℕ, _-_, _≤_}
 use mathlib.Core.Path.{_≡_, ap}
 use native.Mathlib.Omega.{arith}
+use Rattle.model.specs.Limits.{limits}
 use Rattle.model.specs.Lists.{each, range}
 use Rattle.text.specs.Put.{Wrote}
 use Rattle.text.proofs.Writes.{done, kept, same-text, turn, room}
@@ -10,10 +11,10 @@ use Rattle.answer.proofs.put_entrants.Statement.{statement}
 use Rattle.answer.proofs.put_entrants.Tie as tie
 
 abbrev Inv-loop : tie.InvT-loop
-Inv-loop buf₀ at w n₀ e₀ buf n e = Wrote (each (entrantText w) (range 0 e)) at buf₀ buf n × (e ≤ 64)
+Inv-loop buf₀ at w n₀ e₀ buf n e = Wrote (each (entrantText w) (range 0 e)) at buf₀ buf n × (e ≤ limits .word)
 
 abbrev μ-loop : tie.MeasureT-loop
-μ-loop buf₀ at w n₀ e₀ buf n e = 64 - e
+μ-loop buf₀ at w n₀ e₀ buf n e = limits .word - e
 
 loop-holds : tie.Need-loop-holds Inv-loop μ-loop
 loop-holds c = (done _ _ (omega (arith, c .before .pre)), omega arith)
@@ -21,7 +22,7 @@ loop-holds c = (done _ _ (omega (arith, c .before .pre)), omega arith)
 put-entrant-requires : tie.Need-put-entrant-requires Inv-loop μ-loop
 unfolding entrantsText
 put-entrant-requires c κs =
-    (omega arith, room (entrantText (c .before .before .before .before .args .w)) (c .before .before .loop .e) 64 (c .before .before .loop .inv .0) (c .before .loop-test .taken) (c .before .before .before .before .pre))
+    (omega arith, room (entrantText (c .before .before .before .before .args .w)) (c .before .before .loop .e) (limits .word) (c .before .before .loop .inv .0) (c .before .loop-test .taken) (c .before .before .before .before .pre))
 
 add-e : tie.Need-add-e Inv-loop μ-loop
 add-e c = omega arith
@@ -38,7 +39,7 @@ same-length c = kept (c .before .loop .inv .0)
 returns : tie.Need-returns Inv-loop μ-loop
 unfolding entrantsText
 returns c =
-    let all : c .before .loop .e ≡ 64 = omega (arith, c .before .loop .inv .1) in
+    let all : c .before .loop .e ≡ limits .word = omega (arith, c .before .loop .inv .1) in
     same-text (ap (λ (k : ℕ). each (entrantText (c .before .before .before .args .w)) (range 0 k)) all) (c .before .loop .inv .0)
 
 pub put-entrants-spec : {M : Type 1} → statement M

@@ -3,14 +3,14 @@ use native.Mathlib.Omega.{arith}
 use lib.ListN.{length-take}
 use Rattle.text.proofs.Writes.{kept}
 use Rattle.answer.specs.Assignment.{assignmentText}
-use Rattle.answer.proofs.Values.{many, long, copied}
+use Rattle.answer.proofs.Values.{many, long, copied, with-number}
 use Rattle.answer.proofs.Assignment.{assignment-length}
 use borrow.Author.Needs.{needs}
 use Rattle.answer.proofs.write_assignment.Statement.{statement}
 use Rattle.answer.proofs.write_assignment.Tie as tie
 
 returns : tie.Need-returns
-returns c = many (c .before .before .before .args .values .now) (assignmentText (c .before .before .before .args .values .now)) (c .before .before .before .args .buf .now) (c .if1 .taken)
+returns c = with-number _ _ _ _ (many (c .before .before .before .args .values .now) (assignmentText (c .before .before .before .args .values .now)) (c .before .before .before .args .buf .now) (c .if1 .taken))
 
 assignment-space-requires : tie.Need-assignment-space-requires
 assignment-space-requires c κs = search needs
@@ -23,7 +23,7 @@ put-assignment-requires c κs =
     (c .before .before .if1 .left, omega (arith, assignment-length (c .before .before .before .before .before .args .values .now) (c .before .before .if1 .left), c .before .assignment-space .ensures))
 
 returns-2 : tie.Need-returns-2
-returns-2 c = long (c .before .before .before .before .before .before .before .before .args .values .now) (assignmentText (c .before .before .before .before .before .before .before .before .args .values .now)) (c .before .before .before .before .before .before .before .before .args .buf .now) (c .before .before .before .before .before .if1 .left) (c .before .before .put-assignment .ensures) (c .if2 .taken)
+returns-2 c = with-number _ _ _ _ (long (c .before .before .before .before .before .before .before .before .args .values .now) (assignmentText (c .before .before .before .before .before .before .before .before .args .values .now)) (c .before .before .before .before .before .before .before .before .args .buf .now) (c .before .before .before .before .before .if1 .left) (c .before .before .put-assignment .ensures) (c .if2 .taken))
 
 array-share-prefix-all : tie.Need-array-share-prefix-all
 array-share-prefix-all c = search needs
@@ -40,7 +40,7 @@ same-length : tie.Need-same-length
 same-length c = search needs
 
 returns-3 : tie.Need-returns-3
-returns-3 c = copied (c .before .before .before .before .before .before .before .before .before .before .before .before .before .args .values .now) (assignmentText (c .before .before .before .before .before .before .before .before .before .before .before .before .before .args .values .now)) (c .before .before .before .before .before .before .before .before .before .before .before .before .before .args .buf .now) (c .before .before .before .before .before .before .before .before .before .before .if1 .left) (c .before .before .before .before .before .before .before .put-assignment .ensures) _ (c .before .before .before .before .before .if2 .left) (c .before .before .put-bytes .ensures .1)
+returns-3 c = with-number _ _ _ _ (copied (c .before .before .before .before .before .before .before .before .before .before .before .before .before .args .values .now) (assignmentText (c .before .before .before .before .before .before .before .before .before .before .before .before .before .args .values .now)) (c .before .before .before .before .before .before .before .before .before .before .before .before .before .args .buf .now) (c .before .before .before .before .before .before .before .before .before .before .if1 .left) (c .before .before .before .before .before .before .before .put-assignment .ensures) _ (c .before .before .before .before .before .if2 .left) (c .before .before .put-bytes .ensures .1))
 
 pub write-assignment-spec : {M : Type 1} → statement M
 write-assignment-spec =

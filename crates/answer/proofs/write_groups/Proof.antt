@@ -3,7 +3,7 @@ use Prim.Native.Nat.{_≤_}
 use native.Mathlib.Omega.{arith}
 use lib.ListN.{length-take}
 use Rattle.text.proofs.Writes.{kept}
-use Rattle.answer.proofs.Groups.{groups-length, refused, copied}
+use Rattle.answer.proofs.Groups.{groups-length, refused, copied, with-number}
 use borrow.Author.Needs.{needs}
 use Rattle.answer.proofs.write_groups.Statement.{statement}
 use Rattle.answer.proofs.write_groups.Tie as tie
@@ -23,7 +23,7 @@ put-groups-requires c κs =
     (few, omega (arith, groups-length (c .before .before .before .before .args .words) (c .count .result) few, c .before .before .groups-space .ensures))
 
 returns : tie.Need-returns
-returns c = refused (c .before .before .before .before .before .before .before .args .words) (c .before .before .before .before .before .before .before .args .s) (c .before .before .before .count .ensures) (c .before .before .put-groups .ensures) (c .before .before .before .before .before .before .before .args .buf .now) (c .if1 .taken)
+returns c = with-number _ _ _ _ (refused (c .before .before .before .before .before .before .before .args .words) (c .before .before .before .before .before .before .before .args .s) (c .before .before .before .count .ensures) (c .before .before .put-groups .ensures) (c .before .before .before .before .before .before .before .args .buf .now) (c .if1 .taken))
 
 array-share-prefix-all : tie.Need-array-share-prefix-all
 array-share-prefix-all c = search needs
@@ -40,7 +40,7 @@ same-length : tie.Need-same-length
 same-length c = search needs
 
 returns-2 : tie.Need-returns-2
-returns-2 c = copied (c .before .before .before .before .before .before .before .before .before .before .before .before .args .words) (c .before .before .before .before .before .before .before .before .before .before .before .before .args .s) (c .before .before .before .before .before .before .before .before .count .ensures) (c .before .before .before .before .before .before .before .put-groups .ensures) (c .before .before .before .before .before .before .before .before .before .before .before .before .args .buf .now) _ (c .before .before .before .before .before .if1 .left) (c .before .before .put-bytes .ensures .1)
+returns-2 c = with-number _ _ _ _ (copied (c .before .before .before .before .before .before .before .before .before .before .before .before .args .words) (c .before .before .before .before .before .before .before .before .before .before .before .before .args .s) (c .before .before .before .before .before .before .before .before .count .ensures) (c .before .before .before .before .before .before .before .put-groups .ensures) (c .before .before .before .before .before .before .before .before .before .before .before .before .args .buf .now) _ (c .before .before .before .before .before .if1 .left) (c .before .before .put-bytes .ensures .1))
 
 pub write-groups-spec : {M : Type 1} → statement M
 write-groups-spec =

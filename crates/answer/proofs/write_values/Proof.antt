@@ -3,13 +3,13 @@ use native.Mathlib.Omega.{arith}
 use lib.ListN.{length-take}
 use Rattle.text.proofs.Writes.{kept}
 use Rattle.answer.specs.Values.{valuesText}
-use Rattle.answer.proofs.Values.{values-length, many, long, copied}
+use Rattle.answer.proofs.Values.{values-length, many, long, copied, with-number}
 use borrow.Author.Needs.{needs}
 use Rattle.answer.proofs.write_values.Statement.{statement}
 use Rattle.answer.proofs.write_values.Tie as tie
 
 returns : tie.Need-returns
-returns c = many (c .before .before .before .args .values .now) (valuesText (c .before .before .before .args .values .now)) (c .before .before .before .args .buf .now) (c .if1 .taken)
+returns c = with-number _ _ _ _ (many (c .before .before .before .args .values .now) (valuesText (c .before .before .before .args .values .now)) (c .before .before .before .args .buf .now) (c .if1 .taken))
 
 values-space-requires : tie.Need-values-space-requires
 values-space-requires c κs = search needs
@@ -22,7 +22,7 @@ put-line-requires c κs =
     (c .before .before .if1 .left, omega (arith, values-length (c .before .before .before .before .before .args .values .now) (c .before .before .if1 .left), c .before .values-space .ensures))
 
 returns-2 : tie.Need-returns-2
-returns-2 c = long (c .before .before .before .before .before .before .before .before .args .values .now) (valuesText (c .before .before .before .before .before .before .before .before .args .values .now)) (c .before .before .before .before .before .before .before .before .args .buf .now) (c .before .before .before .before .before .if1 .left) (c .before .before .put-line .ensures) (c .if2 .taken)
+returns-2 c = with-number _ _ _ _ (long (c .before .before .before .before .before .before .before .before .args .values .now) (valuesText (c .before .before .before .before .before .before .before .before .args .values .now)) (c .before .before .before .before .before .before .before .before .args .buf .now) (c .before .before .before .before .before .if1 .left) (c .before .before .put-line .ensures) (c .if2 .taken))
 
 array-share-prefix-all : tie.Need-array-share-prefix-all
 array-share-prefix-all c = search needs
@@ -39,7 +39,7 @@ same-length : tie.Need-same-length
 same-length c = search needs
 
 returns-3 : tie.Need-returns-3
-returns-3 c = copied (c .before .before .before .before .before .before .before .before .before .before .before .before .before .args .values .now) (valuesText (c .before .before .before .before .before .before .before .before .before .before .before .before .before .args .values .now)) (c .before .before .before .before .before .before .before .before .before .before .before .before .before .args .buf .now) (c .before .before .before .before .before .before .before .before .before .before .if1 .left) (c .before .before .before .before .before .before .before .put-line .ensures) _ (c .before .before .before .before .before .if2 .left) (c .before .before .put-bytes .ensures .1)
+returns-3 c = with-number _ _ _ _ (copied (c .before .before .before .before .before .before .before .before .before .before .before .before .before .args .values .now) (valuesText (c .before .before .before .before .before .before .before .before .before .before .before .before .before .args .values .now)) (c .before .before .before .before .before .before .before .before .before .before .before .before .before .args .buf .now) (c .before .before .before .before .before .before .before .before .before .before .if1 .left) (c .before .before .before .before .before .before .before .put-line .ensures) _ (c .before .before .before .before .before .if2 .left) (c .before .before .put-bytes .ensures .1))
 
 pub write-values-spec : {M : Type 1} → statement M
 write-values-spec =

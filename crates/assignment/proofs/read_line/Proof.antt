@@ -10,6 +10,7 @@ use Rattle.model.specs.Assignment.{isPassedOver, callRefusal, isTaken, lineRead
 use native.Mathlib.Omega.{arith}
 use borrow.Author.Tests.{ne-eqb}
 use borrow.Author.Needs.{needs}
+use Rattle.correctness.proofs.Reading.{line-reads}
 use Rattle.assignment.proofs.read_line.Statement.{statement}
 use Rattle.assignment.proofs.read_line.Tie as tie
 
@@ -62,22 +63,22 @@ empty r [] values e = refl
 empty r (b ∷ bs) values e = absurd (omega arith)
 
 returns : tie.Need-returns
-returns c = refused (c .before .before .before .args .reading) (c .before .before .before .args .line .now) (c .before .before .before .args .values .now) 10 (empty (c .before .before .before .args .reading) (c .before .before .before .args .line .now) (c .before .before .before .args .values .now) (c .if1 .taken)) refl
+returns c = line-reads _ _ _ _ _ (refused (c .before .before .before .args .reading) (c .before .before .before .args .line .now) (c .before .before .before .args .values .now) 10 (empty (c .before .before .before .args .reading) (c .before .before .before .args .line .now) (c .before .before .before .args .values .now) (c .if1 .taken)) refl)
 
 shared-slice-read-first : tie.Need-shared-slice-read-first
 shared-slice-read-first c = search needs
 
 returns-2 : tie.Need-returns-2
-returns-2 c = over (c .before .before .before .before .before .args .reading) (c .before .before .before .before .before .args .line .now) (c .before .before .before .before .before .args .values .now) (passed-c (c .before .before .before .before .before .args .reading) (c .before .before .before .before .before .args .line .now) (c .before .before .before .before .before .args .values .now) (c .if2 .taken))
+returns-2 c = line-reads _ _ _ _ _ (over (c .before .before .before .before .before .args .reading) (c .before .before .before .before .before .args .line .now) (c .before .before .before .before .before .args .values .now) (passed-c (c .before .before .before .before .before .args .reading) (c .before .before .before .before .before .args .line .now) (c .before .before .before .before .before .args .values .now) (c .if2 .taken)))
 
 returns-3 : tie.Need-returns-3
-returns-3 c = over (c .before .before .before .before .before .before .args .reading) (c .before .before .before .before .before .before .args .line .now) (c .before .before .before .before .before .before .args .values .now) (passed-s (c .before .before .before .before .before .before .args .reading) (c .before .before .before .before .before .before .args .line .now) (c .before .before .before .before .before .before .args .values .now) (c .if3 .taken))
+returns-3 c = line-reads _ _ _ _ _ (over (c .before .before .before .before .before .before .args .reading) (c .before .before .before .before .before .before .args .line .now) (c .before .before .before .before .before .before .args .values .now) (passed-s (c .before .before .before .before .before .before .args .reading) (c .before .before .before .before .before .before .args .line .now) (c .before .before .before .before .before .before .args .values .now) (c .if3 .taken)))
 
 returns-4 : tie.Need-returns-4
-returns-4 c = refused (c .before .before .before .before .before .before .before .args .reading) (c .before .before .before .before .before .before .before .args .line .now) (c .before .before .before .before .before .before .before .args .values .now) 10 (other (c .before .before .before .before .before .before .before .args .reading) (c .before .before .before .before .before .before .before .args .line .now) (c .before .before .before .before .before .before .before .args .values .now) (c .before .before .if2 .left) (c .before .if3 .left) (c .if4 .taken)) refl
+returns-4 c = line-reads _ _ _ _ _ (refused (c .before .before .before .before .before .before .before .args .reading) (c .before .before .before .before .before .before .before .args .line .now) (c .before .before .before .before .before .before .before .args .values .now) 10 (other (c .before .before .before .before .before .before .before .args .reading) (c .before .before .before .before .before .before .before .args .line .now) (c .before .before .before .before .before .before .before .args .values .now) (c .before .before .if2 .left) (c .before .if3 .left) (c .if4 .taken)) refl)
 
 returns-5 : tie.Need-returns-5
-returns-5 c = refused (c .before .before .before .before .before .before .before .before .args .reading) (c .before .before .before .before .before .before .before .before .args .line .now) (c .before .before .before .before .before .before .before .before .args .values .now) 25 (late (c .before .before .before .before .before .before .before .before .args .reading) (c .before .before .before .before .before .before .before .before .args .line .now) (c .before .before .before .before .before .before .before .before .args .values .now) (c .before .if4 .left) (c .if5 .taken)) refl
+returns-5 c = line-reads _ _ _ _ _ (refused (c .before .before .before .before .before .before .before .before .args .reading) (c .before .before .before .before .before .before .before .before .args .line .now) (c .before .before .before .before .before .before .before .before .args .values .now) 25 (late (c .before .before .before .before .before .before .before .before .args .reading) (c .before .before .before .before .before .before .before .before .args .line .now) (c .before .before .before .before .before .before .before .before .args .values .now) (c .before .if4 .left) (c .if5 .taken)) refl)
 
 read-values-requires : tie.Need-read-values-requires
 read-values-requires c κs = (omega (arith, (c .before .before .before .before .before .before .if1 .left)), (c .before .before .if4 .left), (c .before .if5 .left))
@@ -86,7 +87,7 @@ same-length : tie.Need-same-length
 same-length c = search needs
 
 returns-6 : tie.Need-returns-6
-returns-6 c = (c .before .before .read-values .ensures)
+returns-6 c = line-reads _ _ _ _ _ ((c .before .before .read-values .ensures))
 
 pub read-line-spec : {M : Type 1} → statement M
 read-line-spec =

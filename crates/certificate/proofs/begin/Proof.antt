@@ -1,14 +1,14 @@
 -- `begin` meets its contract: the reader's and settling's equations say what is known before the certificate. Assumes nothing.
 use mathlib.Core.Path.{refl, sym, _∙_}
 use borrow.Author.Needs.{needs}
-use Rattle.certificate.proofs.Answer.{refused-opening, settled-opening, open-opening, out-no-draw, open-unrefuted, unrefuted-as, refused-out, refused-open, out-open}
+use Rattle.certificate.proofs.Answer.{refused-opening, settled-opening, open-opening, out-no-draw, open-unrefuted, unrefuted-as, refused-out, refused-open, out-open, opening-told}
 use Rattle.certificate.proofs.begin.Statement.{statement}
 use Rattle.certificate.proofs.begin.Tie as tie
 
 returns : tie.Need-returns
 returns c =
     let o = c .closed .ensures in (
-      o ∙ refused-opening _ _ (c .before .before .before .read-sheet .ensures .0) (c .before .if1 .taken),
+      opening-told _ _ (o ∙ refused-opening _ _ (c .before .before .before .read-sheet .ensures .0) (c .before .if1 .taken)),
       (
         record { out = λ e. absurd (refused-out (sym o ∙ e)); unrefuted = λ e. absurd (refused-open (sym o ∙ e)) },
         λ n. (refl, refl, refl, refl),
@@ -21,7 +21,7 @@ returns-2 c =
     let r = c .before .before .before .before .before .before .before .read-sheet .ensures .0 in
     let z = c .before .before .before .before .before .if1 .left in
     let p = c .before .before .before .propagate .ensures .0 in (
-      o ∙ settled-opening _ _ r z _ p (c .before .if2 .taken),
+      opening-told _ _ (o ∙ settled-opening _ _ r z _ p (c .before .if2 .taken)),
       (
         record { out = λ e. out-no-draw _ _ r z _ p (c .before .if2 .taken); unrefuted = λ e. absurd (out-open (sym o ∙ e)) },
         λ n. (refl, refl, refl, refl),
@@ -34,9 +34,9 @@ returns-3 c =
     let z = c .before .before .before .before .before .before .before .before .before .before .before .before .before .before .before .before .before .before .before .if1 .left in
     let p = c .before .before .before .before .before .before .before .before .before .before .before .before .before .before .before .before .before .propagate .ensures .0 in
     let h = c .before .before .before .before .before .before .before .before .before .before .before .before .before .before .before .if2 .left in (
-      open-opening _ _ r z _ p h,
+      opening-told _ _ (open-opening _ _ r z _ p h),
       (
-        record { out = λ e. absurd (out-open (sym e)); unrefuted = λ e. unrefuted-as (c .first-line .ensures) (open-unrefuted _ _ r z _ p h _ _ _ _ (c .before .before .before .before .before .before .before .before .before .load-clauses .ensures)) },
+        record { out = λ e. absurd (out-open (sym e)); unrefuted = λ e. unrefuted-as (c .first-line .ensures .0) (open-unrefuted _ _ r z _ p h _ _ _ _ (c .before .before .before .before .before .before .before .before .before .load-clauses .ensures)) },
         λ n. absurd (n refl),
       ),
     )

@@ -2,6 +2,7 @@
 use native.Mathlib.Omega.{arith}
 use borrow.Author.Needs.{needs}
 use lib.ListN.{length}
+use Rattle.correctness.proofs.Demand3.{written-listed}
 use Rattle.cnf.proofs.Entry.{written-refused, buffer-refused, judged-settled, judged-block, written-means, written-by-steps}
 use Rattle.cnf.proofs.Runs.{one-refused, one-written, one-buffer}
 use Rattle.cnf.proofs.write_block.Statement.{statement}
@@ -18,7 +19,7 @@ returns c =
     let room = length (a .buf .now) in
     let w = written-refused (a .m) (a .b) room _ e x in
     let h = buffer-refused (a .m) (a .b) _ _ e x in
-    (w, (h, (written-means (a .m) (a .b) room _ w, written-by-steps (a .m) (a .b) (a .buf .now) _ _ w h)))
+    (w, (h, (written-means (a .m) (a .b) room _ w, (written-by-steps (a .m) (a .b) (a .buf .now) _ _ w h, λ z. absurd (x z)))))
 
 whole-requires : tie.Need-whole-requires
 whole-requires c κs = search needs
@@ -44,7 +45,7 @@ returns-2 c =
     let r = c .before .before .before .before .write-run .ensures in
     let x = one-refused (a .m) q (a .b) (a .buf .now) _ (r .0) (c .if2 .taken) in
     let y = one-buffer (a .m) q (a .b) (a .buf .now) _ (r .0) _ (r .1) in
-    (x, (y, (written-means (a .m) (a .b) (length (a .buf .now)) _ x, written-by-steps (a .m) (a .b) (a .buf .now) _ _ x y)))
+    (x, (y, (written-means (a .m) (a .b) (length (a .buf .now)) _ x, (written-by-steps (a .m) (a .b) (a .buf .now) _ _ x y, written-listed (a .m) q (a .b) (a .buf .now) _ _ x y))))
 
 same-length-2 : tie.Need-same-length-2
 same-length-2 c = search needs
@@ -59,7 +60,7 @@ returns-3 c =
     let r = c .before .before .before .before .write-run .ensures in
     let x = one-written (a .m) q (a .b) (a .buf .now) _ (r .0) (c .if2 .left) in
     let y = one-buffer (a .m) q (a .b) (a .buf .now) _ (r .0) _ (r .1) in
-    (x, (y, (written-means (a .m) (a .b) (length (a .buf .now)) _ x, written-by-steps (a .m) (a .b) (a .buf .now) _ _ x y)))
+    (x, (y, (written-means (a .m) (a .b) (length (a .buf .now)) _ x, (written-by-steps (a .m) (a .b) (a .buf .now) _ _ x y, written-listed (a .m) q (a .b) (a .buf .now) _ _ x y))))
 
 pub write-block-spec : {M : Type 1} → statement M
 write-block-spec =

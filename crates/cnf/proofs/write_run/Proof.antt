@@ -15,10 +15,9 @@ use Rattle.encoding_laws.proofs.Bounds.{block-bound}
 use Rattle.numbering.proofs.Models.{first-is}
 use Rattle.counts.proofs.Settled.{groups-few, entrants-few, constraints-few, table-among}
 use Rattle.text.proofs.Writes.{kept, same-text}
-use Rattle.cnf.specs.Parts.{groupBlockText}
-use Rattle.cnf.proofs.Settled.{lines-are, blocks-most, header-block, first-length, first-one, here-settled, here-among, here-text, here-most, place-in-model, here-in-range, x-some, x-among, here-block}
+use Rattle.cnf.proofs.Settled.{lines-are, blocks-most, header-block, first-length, first-one, here-settled, here-among, here-longer, here-few, place-in-model, here-in-range, x-some, x-among, here-block}
 use Rattle.cnf.proofs.Entry.{does-fit, does-not-fit}
-use Rattle.cnf.proofs.Runs.{Stopped, stopped-start, stopped-on, stopped-short, stopped-answer, first-answer, stopped-buffer}
+use Rattle.cnf.proofs.Runs.{Stopped, stopped-start, stopped-on, stopped-short, stopped-run, stopped-run-short, group-last, group-run, stopped-answer, first-answer, stopped-buffer}
 use Rattle.cnf.proofs.write_run.Statement.{statement}
 use Rattle.cnf.proofs.write_run.Tie as tie
 
@@ -98,57 +97,33 @@ mul-o c = omega (arith, c .before .group-of .ensures .0, groups-few (c .before .
 element-copy-out-o : tie.Need-element-copy-out-o Inv-loop μ-loop
 element-copy-out-o c = omega (arith, c .before .group-of .ensures .0, groups-few (c .before .before .before .before .before .before .before .before .before .before .before .before .before .before .args .t1) (c .before .before .before .before .before .before .before .before .before .before .before .before .before .before .pre .0))
 
-mul-k : tie.Need-mul-k Inv-loop μ-loop
-mul-k c = omega (arith, c .before .before .group-of .ensures .0, groups-few (c .before .before .before .before .before .before .before .before .before .before .before .before .before .before .before .args .t1) (c .before .before .before .before .before .before .before .before .before .before .before .before .before .before .before .pre .0))
+mul-put-group : tie.Need-mul-put-group Inv-loop μ-loop
+mul-put-group c = omega (arith, c .before .before .before .group-of .ensures .0, groups-few (c .before .before .before .before .before .before .before .before .before .before .before .before .before .before .before .before .args .t1) (c .before .before .before .before .before .before .before .before .before .before .before .before .before .before .before .before .pre .0))
 
-array-read-k : tie.Need-array-read-k Inv-loop μ-loop
-array-read-k c = omega (arith, c .before .before .group-of .ensures .0, groups-few (c .before .before .before .before .before .before .before .before .before .before .before .before .before .before .before .args .t1) (c .before .before .before .before .before .before .before .before .before .before .before .before .before .before .before .pre .0))
+array-read-put-group : tie.Need-array-read-put-group Inv-loop μ-loop
+array-read-put-group c = omega (arith, c .before .before .before .group-of .ensures .0, groups-few (c .before .before .before .before .before .before .before .before .before .before .before .before .before .before .before .before .args .t1) (c .before .before .before .before .before .before .before .before .before .before .before .before .before .before .before .before .pre .0))
 
-sub-k : tie.Need-sub-k Inv-loop μ-loop
-sub-k c = c .before .before .group-of .ensures .1
+mul-put-group-2 : tie.Need-mul-put-group-2 Inv-loop μ-loop
+mul-put-group-2 c = omega (arith, c .before .before .before .group-of .ensures .0, groups-few (c .before .before .before .before .before .before .before .before .before .before .before .before .before .before .before .before .args .t1) (c .before .before .before .before .before .before .before .before .before .before .before .before .before .before .before .before .pre .0))
 
-mul-group-block-fits : tie.Need-mul-group-block-fits Inv-loop μ-loop
-mul-group-block-fits c = omega (arith, c .before .before .group-of .ensures .0, groups-few (c .before .before .before .before .before .before .before .before .before .before .before .before .before .before .before .args .t1) (c .before .before .before .before .before .before .before .before .before .before .before .before .before .before .before .pre .0))
+array-read-put-group-2 : tie.Need-array-read-put-group-2 Inv-loop μ-loop
+array-read-put-group-2 c = omega (arith, c .before .before .before .group-of .ensures .0, groups-few (c .before .before .before .before .before .before .before .before .before .before .before .before .before .before .before .before .args .t1) (c .before .before .before .before .before .before .before .before .before .before .before .before .before .before .before .before .pre .0))
 
-array-read-group-block-fits : tie.Need-array-read-group-block-fits Inv-loop μ-loop
-array-read-group-block-fits c = omega (arith, c .before .before .group-of .ensures .0, groups-few (c .before .before .before .before .before .before .before .before .before .before .before .before .before .before .before .args .t1) (c .before .before .before .before .before .before .before .before .before .before .before .before .before .before .before .pre .0))
-
-group-block-fits-requires : tie.Need-group-block-fits-requires Inv-loop μ-loop
+put-group-requires : tie.Need-put-group-requires Inv-loop μ-loop
 unfolding zeroGroup
-group-block-fits-requires c κs =
-    let m = c .before .before .before .before .before .before .before .before .before .before .before .before .before .before .before .args .t1 in
-    let q = c .before .before .before .before .before .before .before .before .before .before .before .before .before .before .before .pre .0 in
-    let v = c .before .before .before .before .before .before .before .before .before .before .before .before .before .of-model .result in
-    let n = c .before .before .before .before .before .before .before .before .before .before .before .before .before .of-model .ensures in
-    let d = c .before .before .before .before .before .before .before .before .before .before .of-groups in
-    let x = c .before .before .before .before .before .before .before .before .loop .x in
-    let o = c .before .before .group-of in
-    let top : x ≤ length (nodeBlocks m) = omega (arith, lines-are m q _ (d .ensures .1), c .before .before .before .before .if3 .taken) in
-    (here-settled m q _ (d .ensures .0) x (o .result) (o .ensures .0) top (o .ensures .1) (o .ensures .2) v n, (here-among m q _ (d .ensures .0) x (o .result) (o .ensures .0) top (o .ensures .1) (o .ensures .2) v n, here-most m q _ (d .ensures .0) x (o .result) (o .ensures .0) top (o .ensures .1) (o .ensures .2) v n))
-
-mul-put-group-block : tie.Need-mul-put-group-block Inv-loop μ-loop
-mul-put-group-block c = omega (arith, c .before .before .before .before .before .group-of .ensures .0, groups-few (c .before .before .before .before .before .before .before .before .before .before .before .before .before .before .before .before .before .before .args .t1) (c .before .before .before .before .before .before .before .before .before .before .before .before .before .before .before .before .before .before .pre .0))
-
-array-read-put-group-block : tie.Need-array-read-put-group-block Inv-loop μ-loop
-array-read-put-group-block c = omega (arith, c .before .before .before .before .before .group-of .ensures .0, groups-few (c .before .before .before .before .before .before .before .before .before .before .before .before .before .before .before .before .before .before .args .t1) (c .before .before .before .before .before .before .before .before .before .before .before .before .before .before .before .before .before .before .pre .0))
-
-put-group-block-requires : tie.Need-put-group-block-requires Inv-loop μ-loop
-unfolding zeroGroup
-put-group-block-requires c κs =
-    let m = c .before .before .before .before .before .before .before .before .before .before .before .before .before .before .before .before .before .before .args .t1 in
-    let q = c .before .before .before .before .before .before .before .before .before .before .before .before .before .before .before .before .before .before .pre .0 in
-    let v = c .before .before .before .before .before .before .before .before .before .before .before .before .before .before .before .before .of-model .result in
-    let n = c .before .before .before .before .before .before .before .before .before .before .before .before .before .before .before .before .of-model .ensures in
-    let d = c .before .before .before .before .before .before .before .before .before .before .before .before .before .of-groups in
-    let x = c .before .before .before .before .before .before .before .before .before .before .before .loop .x in
-    let o = c .before .before .before .before .before .group-of in
-    let top : x ≤ length (nodeBlocks m) = omega (arith, lines-are m q _ (d .ensures .1), c .before .before .before .before .before .before .before .if3 .taken) in
-    let w = c .before .before .before .before .before .before .before .before .before .before .before .loop .inv .going .wrote in
-    let l = does-fit (groupBlockText (getD (m .groups) (o .result) zeroGroup) (getD (v .first) (o .result) 0) (getD (v .outputs) (o .result) 0) (x - getD (d .result .first) (o .result) 0)) _ (c .before .before .group-block-fits .ensures) (c .before .if4 .taken) in
-    (here-settled m q _ (d .ensures .0) x (o .result) (o .ensures .0) top (o .ensures .1) (o .ensures .2) v n, (here-among m q _ (d .ensures .0) x (o .result) (o .ensures .0) top (o .ensures .1) (o .ensures .2) v n, omega (arith, l, kept w, w .inside)))
-
-add-x-2 : tie.Need-add-x-2 Inv-loop μ-loop
-add-x-2 c = omega (arith, blocks-most (c .before .before .before .before .before .before .before .before .before .before .before .before .before .before .before .before .before .before .before .before .before .args .t1) (c .before .before .before .before .before .before .before .before .before .before .before .before .before .before .before .before .before .before .before .before .before .pre .0), c .before .before .before .before .before .before .before .before .before .before .before .before .before .before .before .before .before .before .before .before .before .pre .2, c .before .before .before .before .before .before .before .before .before .before .before .before .before .before .loop .inv .short, c .before .before .before .before .before .before .before .before .before .before .before .before .before .loop-test .taken)
+put-group-requires c κs =
+    let m = c .before .before .before .before .before .before .before .before .before .before .before .before .before .before .before .before .args .t1 in
+    let q = c .before .before .before .before .before .before .before .before .before .before .before .before .before .before .before .before .pre .0 in
+    let v = c .before .before .before .before .before .before .before .before .before .before .before .before .before .before .of-model .result in
+    let n = c .before .before .before .before .before .before .before .before .before .before .before .before .before .before .of-model .ensures in
+    let d = c .before .before .before .before .before .before .before .before .before .before .before .of-groups in
+    let e = d .ensures .0 in
+    let x = c .before .before .before .before .before .before .before .before .before .loop .x in
+    let o = c .before .before .before .group-of in
+    let top : x ≤ length (nodeBlocks m) = omega (arith, lines-are m q _ (d .ensures .1), c .before .before .before .before .before .if3 .taken) in
+    let w = c .before .before .before .before .before .before .before .before .before .loop .inv .going .wrote in
+    let hs = here-settled m q _ e x (o .result) (o .ensures .0) top (o .ensures .1) (o .ensures .2) v n in
+    ((hs .0, o .ensures .1, hs .1), (here-among m q _ e x (o .result) (o .ensures .0) top (o .ensures .1) (o .ensures .2) v n, ((here-few m q _ e x (o .result) (o .ensures .0) top (o .ensures .1) (o .ensures .2) v n, omega (arith, kept w, w .inside)), here-longer m q _ e x (o .result) (o .ensures .0) top (o .ensures .1) (o .ensures .2) v n)))
 
 loop-less-3 : tie.Need-loop-less-3 Inv-loop μ-loop
 loop-less-3 c = omega (arith, c .before .before .before .before .before .before .before .before .before .before .before .before .before .loop-test .taken)
@@ -161,27 +136,47 @@ loop-again-3 c =
     let v = c .before .before .before .before .before .before .before .before .before .before .before .before .before .before .before .before .before .before .before .of-model .result in
     let n = c .before .before .before .before .before .before .before .before .before .before .before .before .before .before .before .before .before .before .before .of-model .ensures in
     let d = c .before .before .before .before .before .before .before .before .before .before .before .before .before .before .before .before .of-groups in
+    let e = d .ensures .0 in
     let x = c .before .before .before .before .before .before .before .before .before .before .before .before .before .before .loop .x in
     let o = c .before .before .before .before .before .before .before .before .group-of in
     let top : x ≤ length (nodeBlocks m) = omega (arith, lines-are m q _ (d .ensures .1), c .before .before .before .before .before .before .before .before .before .before .if3 .taken) in
-    stopped-on (c .before .before .before .before .before .before .before .before .before .before .before .before .before .before .before .before .before .before .before .before .before .args .t1) (c .before .before .before .before .before .before .before .before .before .before .before .before .before .before .before .before .before .before .before .before .before .args .b) (c .before .before .before .before .before .before .before .before .before .before .before .before .before .before .before .before .before .before .before .before .before .args .end) _ _ _ _ _ (c .before .before .before .before .before .before .before .before .before .before .before .before .before .before .loop .inv) (c .before .before .before .before .before .before .before .before .before .before .before .before .before .loop-test .taken) (c .before .before .before .before .before .before .before .before .before .before .before .before .before .before .before .before .before .before .before .before .before .pre .0) (c .before .before .before .before .before .before .before .before .before .before .before .before .before .before .before .before .before .before .before .before .before .pre .2) _ _ (same-text (here-text m q _ (d .ensures .0) x (o .result) (o .ensures .0) top (o .ensures .1) (o .ensures .2) v n) (c .before .before .put-group-block .ensures))
+    let p = c .before .before .before .before .put-group in
+    let t = group-last m q _ e x (o .result) (o .ensures .0) top (o .ensures .1) (o .ensures .2) v n (c .before .before .before .before .before .before .before .before .before .before .before .before .before .before .loop .stop) (p .result .end) (p .ensures .0) (c .before .before .before .before .before .before .before .before .before .before .before .before .before .loop-test .taken) in
+    let u = group-run m q _ e x (o .result) (o .ensures .0) top (o .ensures .1) (o .ensures .2) v n (c .before .before .before .before .before .before .before .before .before .before .before .before .before .before .loop .stop) (p .result .end) (p .ensures .0) (c .before .before .before .before .before .before .before .before .before .before .before .before .before .loop-test .taken) (p .ensures .1) in
+    stopped-run-short m (c .before .before .before .before .before .before .before .before .before .before .before .before .before .before .before .before .before .before .before .before .before .args .b) (c .before .before .before .before .before .before .before .before .before .before .before .before .before .before .before .before .before .before .before .before .before .args .end) _ _ _ _ _ (c .before .before .before .before .before .before .before .before .before .before .before .before .before .before .loop .inv) (c .before .before .before .before .before .before .before .before .before .before .before .before .before .loop-test .taken) q (c .before .before .before .before .before .before .before .before .before .before .before .before .before .before .before .before .before .before .before .before .before .pre .2) _ _ _ _ (t .0) (t .2) u (c .if4 .taken)
 
 loop-less-4 : tie.Need-loop-less-4 Inv-loop μ-loop
-loop-less-4 c = omega (arith, c .before .before .before .before .before .before .before .before .before .loop-test .taken)
+unfolding zeroGroup
+loop-less-4 c =
+    let m = c .before .before .before .before .before .before .before .before .before .before .before .before .before .before .before .before .before .before .before .before .before .args .t1 in
+    let q = c .before .before .before .before .before .before .before .before .before .before .before .before .before .before .before .before .before .before .before .before .before .pre .0 in
+    let v = c .before .before .before .before .before .before .before .before .before .before .before .before .before .before .before .before .before .before .before .of-model .result in
+    let n = c .before .before .before .before .before .before .before .before .before .before .before .before .before .before .before .before .before .before .before .of-model .ensures in
+    let d = c .before .before .before .before .before .before .before .before .before .before .before .before .before .before .before .before .of-groups in
+    let e = d .ensures .0 in
+    let x = c .before .before .before .before .before .before .before .before .before .before .before .before .before .before .loop .x in
+    let o = c .before .before .before .before .before .before .before .before .group-of in
+    let top : x ≤ length (nodeBlocks m) = omega (arith, lines-are m q _ (d .ensures .1), c .before .before .before .before .before .before .before .before .before .before .if3 .taken) in
+    let p = c .before .before .before .before .put-group in
+    let t = group-last m q _ e x (o .result) (o .ensures .0) top (o .ensures .1) (o .ensures .2) v n (c .before .before .before .before .before .before .before .before .before .before .before .before .before .before .loop .stop) (p .result .end) (p .ensures .0) (c .before .before .before .before .before .before .before .before .before .before .before .before .before .loop-test .taken) in
+    omega (arith, t .2, c .if4 .left, c .before .before .before .before .before .before .before .before .before .before .before .before .before .loop-test .taken)
 
 loop-again-4 : tie.Need-loop-again-4 Inv-loop μ-loop
 unfolding zeroGroup
 loop-again-4 c =
-    let m = c .before .before .before .before .before .before .before .before .before .before .before .before .before .before .before .before .before .args .t1 in
-    let q = c .before .before .before .before .before .before .before .before .before .before .before .before .before .before .before .before .before .pre .0 in
-    let v = c .before .before .before .before .before .before .before .before .before .before .before .before .before .before .before .of-model .result in
-    let n = c .before .before .before .before .before .before .before .before .before .before .before .before .before .before .before .of-model .ensures in
-    let d = c .before .before .before .before .before .before .before .before .before .before .before .before .of-groups in
-    let x = c .before .before .before .before .before .before .before .before .before .before .loop .x in
-    let o = c .before .before .before .before .group-of in
-    let top : x ≤ length (nodeBlocks m) = omega (arith, lines-are m q _ (d .ensures .1), c .before .before .before .before .before .before .if3 .taken) in
-    let l = does-not-fit (groupBlockText (getD (m .groups) (o .result) zeroGroup) (getD (v .first) (o .result) 0) (getD (v .outputs) (o .result) 0) (x - getD (d .result .first) (o .result) 0)) _ (c .before .group-block-fits .ensures) (c .if4 .left) in
-    stopped-short (c .before .before .before .before .before .before .before .before .before .before .before .before .before .before .before .before .before .args .t1) (c .before .before .before .before .before .before .before .before .before .before .before .before .before .before .before .before .before .args .b) (c .before .before .before .before .before .before .before .before .before .before .before .before .before .before .before .before .before .args .end) _ _ _ _ _ (c .before .before .before .before .before .before .before .before .before .before .loop .inv) (c .before .before .before .before .before .before .before .before .before .loop-test .taken) (omega (arith, l, ap length (here-text m q _ (d .ensures .0) x (o .result) (o .ensures .0) top (o .ensures .1) (o .ensures .2) v n)))
+    let m = c .before .before .before .before .before .before .before .before .before .before .before .before .before .before .before .before .before .before .before .before .before .args .t1 in
+    let q = c .before .before .before .before .before .before .before .before .before .before .before .before .before .before .before .before .before .before .before .before .before .pre .0 in
+    let v = c .before .before .before .before .before .before .before .before .before .before .before .before .before .before .before .before .before .before .before .of-model .result in
+    let n = c .before .before .before .before .before .before .before .before .before .before .before .before .before .before .before .before .before .before .before .of-model .ensures in
+    let d = c .before .before .before .before .before .before .before .before .before .before .before .before .before .before .before .before .of-groups in
+    let e = d .ensures .0 in
+    let x = c .before .before .before .before .before .before .before .before .before .before .before .before .before .before .loop .x in
+    let o = c .before .before .before .before .before .before .before .before .group-of in
+    let top : x ≤ length (nodeBlocks m) = omega (arith, lines-are m q _ (d .ensures .1), c .before .before .before .before .before .before .before .before .before .before .if3 .taken) in
+    let p = c .before .before .before .before .put-group in
+    let t = group-last m q _ e x (o .result) (o .ensures .0) top (o .ensures .1) (o .ensures .2) v n (c .before .before .before .before .before .before .before .before .before .before .before .before .before .before .loop .stop) (p .result .end) (p .ensures .0) (c .before .before .before .before .before .before .before .before .before .before .before .before .before .loop-test .taken) in
+    let u = group-run m q _ e x (o .result) (o .ensures .0) top (o .ensures .1) (o .ensures .2) v n (c .before .before .before .before .before .before .before .before .before .before .before .before .before .before .loop .stop) (p .result .end) (p .ensures .0) (c .before .before .before .before .before .before .before .before .before .before .before .before .before .loop-test .taken) (p .ensures .1) in
+    stopped-run m (c .before .before .before .before .before .before .before .before .before .before .before .before .before .before .before .before .before .before .before .before .before .args .b) (c .before .before .before .before .before .before .before .before .before .before .before .before .before .before .before .before .before .before .before .before .before .args .end) _ _ _ _ _ (c .before .before .before .before .before .before .before .before .before .before .before .before .before .before .loop .inv) (c .before .before .before .before .before .before .before .before .before .before .before .before .before .loop-test .taken) q (c .before .before .before .before .before .before .before .before .before .before .before .before .before .before .before .before .before .before .before .before .before .pre .2) _ _ _ _ (t .0) (t .2) u (c .if4 .left)
 
 cast-j : tie.Need-cast-j Inv-loop μ-loop
 cast-j c = search needs
@@ -249,8 +244,8 @@ put-constraint-block-requires c κs =
       ((table-among m q, first-is m v e), ((here-in-range m q none x h k _ l, x-some m q none x h k _ l v e, x-among m q none x h k _ l v e), omega (arith, fits, kept w, w .inside))),
     )
 
-add-x-3 : tie.Need-add-x-3 Inv-loop μ-loop
-add-x-3 c = omega (arith, blocks-most (c .before .before .before .before .before .before .before .before .before .before .before .before .before .before .before .before .before .before .before .before .args .t1) (c .before .before .before .before .before .before .before .before .before .before .before .before .before .before .before .before .before .before .before .before .pre .0), c .before .before .before .before .before .before .before .before .before .before .before .before .before .before .before .before .before .before .before .before .pre .2, c .before .before .before .before .before .before .before .before .before .before .before .before .before .loop .inv .short, c .before .before .before .before .before .before .before .before .before .before .before .before .loop-test .taken)
+add-x-2 : tie.Need-add-x-2 Inv-loop μ-loop
+add-x-2 c = omega (arith, blocks-most (c .before .before .before .before .before .before .before .before .before .before .before .before .before .before .before .before .before .before .before .before .args .t1) (c .before .before .before .before .before .before .before .before .before .before .before .before .before .before .before .before .before .before .before .before .pre .0), c .before .before .before .before .before .before .before .before .before .before .before .before .before .before .before .before .before .before .before .before .pre .2, c .before .before .before .before .before .before .before .before .before .before .before .before .before .loop .inv .short, c .before .before .before .before .before .before .before .before .before .before .before .before .loop-test .taken)
 
 loop-less-5 : tie.Need-loop-less-5 Inv-loop μ-loop
 loop-less-5 c = omega (arith, c .before .before .before .before .before .before .before .before .before .before .before .before .loop-test .taken)
@@ -329,16 +324,11 @@ write-run-spec =
     array-copy-out-g
     mul-o
     element-copy-out-o
-    mul-k
-    array-read-k
-    sub-k
-    mul-group-block-fits
-    array-read-group-block-fits
-    group-block-fits-requires
-    mul-put-group-block
-    array-read-put-group-block
-    put-group-block-requires
-    add-x-2
+    mul-put-group
+    array-read-put-group
+    mul-put-group-2
+    array-read-put-group-2
+    put-group-requires
     loop-less-3
     loop-again-3
     loop-less-4
@@ -350,7 +340,7 @@ write-run-spec =
     element-copy-out-o-2
     constraint-block-fits-requires
     put-constraint-block-requires
-    add-x-3
+    add-x-2
     loop-less-5
     loop-again-5
     loop-less-6

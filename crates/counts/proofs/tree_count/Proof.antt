@@ -1,17 +1,12 @@
 -- `tree_count` is the number of a tree's clauses. Assumes nothing.
-use Rattle.counts.proofs.Trees.{clause-table}
-use borrow.Author.Needs.{needs}
 use Rattle.counts.proofs.tree_count.Statement.{statement}
 use Rattle.counts.proofs.tree_count.Tie as tie
 
-mul-result : tie.Need-mul-result
-mul-result c = search needs
-
-array-read-result : tie.Need-array-read-result
-array-read-result c = search needs
+clauses-by-halves-requires : tie.Need-clauses-by-halves-requires
+clauses-by-halves-requires c κs = c .pre
 
 returns : tie.Need-returns
-returns c = clause-table (c .args .m) (c .pre)
+returns c = c .clauses-by-halves .ensures .0
 
 pub tree-count-spec : {M : Type 1} → statement M
-tree-count-spec = tie.close (tie.spec mul-result array-read-result returns)
+tree-count-spec = tie.close (tie.spec clauses-by-halves-requires returns)

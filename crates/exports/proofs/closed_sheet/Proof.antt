@@ -15,7 +15,7 @@ close-requires : tie.Need-close-requires
 close-requires c κs = search needs
 
 returns-2 : tie.Need-returns-2
-returns-2 c = c .close .ensures ∙ closing _ _ (c .before .before .before .before .settled .ensures) (c .before .before .if1 .left) _ _
+returns-2 c = c .close .ensures .0 ∙ closing _ _ (c .before .before .before .before .settled .ensures) (c .before .before .if1 .left) _ _
 
 pub closed-sheet-spec : {M : Type 1} → statement M
 closed-sheet-spec = tie.close (tie.spec settled-requires returns close-requires returns-2)

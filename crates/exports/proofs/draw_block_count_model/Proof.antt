@@ -17,7 +17,7 @@ block-count-requires c κs = search needs
 
 returns : tie.Need-returns
 unfolding modelBlockCount
-returns c = c .block-count .ensures .0 ∙ ap (λ (m : Model). cond (inRange m) (blockCount m) 0) (c .before .model-from .ensures)
+returns c = c .block-count .ensures .0 ∙ ap (λ (m : Model). cond (inRange m) (blockCount m) 0) (c .before .model-from .ensures .0)
 
 pub draw-block-count-model-spec : {M : Type 1} → statement M
 draw-block-count-model-spec = tie.close (tie.spec model-from-requires block-count-requires returns)

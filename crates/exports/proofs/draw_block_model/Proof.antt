@@ -27,7 +27,7 @@ unfolding modelBlock
 returns c =
     let a = c .before .before .before .before .before .before .before .before .args in
     let b = a .block in
-    let m = c .before .before .before .before .before .model-from .ensures in (
+    let m = c .before .before .before .before .before .model-from .ensures .0 in (
       c .written-number .ensures
           ∙ ap (λ (w : Written). writtenNumber w) (c .before .before .before .write-block .ensures .0 ∙ ap (λ (x : Model). writtenBlock x b (length (a .buffer .now))) m),
       c .before .before .before .write-block .ensures .1 .0 ∙ ap (λ (x : Model). blockBuffer x b (a .buffer .now)) m,

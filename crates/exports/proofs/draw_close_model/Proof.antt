@@ -26,7 +26,7 @@ returns : tie.Need-returns
 unfolding modelClose modelGroups
 returns c =
     let a = c .before .before .before .before .before .before .before .before .before .args in
-    let e = c .before .before .before .before .close .ensures ∙ ap (λ (m : Model). closed m (readingOf (a .closed)) (a .values .now)) (c .before .before .before .before .before .model-from .ensures) in
+    let e = c .before .before .before .before .close .ensures .0 ∙ ap (λ (m : Model). closed m (readingOf (a .closed)) (a .values .now)) (c .before .before .before .before .before .model-from .ensures .0) in
     let g = a .groups .now in (
       c .before .before .close-number .ensures .0 ∙ ap (λ (x : Closed). fittedClosing (length g) x .refusal) e,
       c .before .before .close-number .ensures .1 ∙ ap (λ (x : Closed). groupsAfter (fittedClosing (length g) x) g) e,

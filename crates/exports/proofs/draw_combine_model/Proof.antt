@@ -19,7 +19,7 @@ combine-requires c κs = search needs
 returns : tie.Need-returns
 returns c =
     let a = c .before .before .before .before .before .before .before .before .args in
-    let e = c .before .before .combine .ensures .0 ∙ ap₂ combined (c .before .before .before .before .model-from .ensures) (c .before .before .before .model-from2 .ensures) in
+    let e = c .before .before .combine .ensures .0 ∙ ap₂ combined (c .before .before .before .before .model-from .ensures .0) (c .before .before .before .model-from2 .ensures .0) in
     models-refused _ _ _ e (a .words .now) (c .if1 .taken)
 
 put-model-requires : tie.Need-put-model-requires
@@ -31,7 +31,7 @@ same-length c = search needs
 returns-2 : tie.Need-returns-2
 returns-2 c =
     let a = c .before .before .before .before .before .before .before .before .before .before .before .before .before .before .args in
-    let e = c .before .before .before .before .before .before .before .before .combine .ensures .0 ∙ ap₂ combined (c .before .before .before .before .before .before .before .before .before .before .model-from .ensures) (c .before .before .before .before .before .before .before .before .before .model-from2 .ensures) in
+    let e = c .before .before .before .before .before .before .before .before .combine .ensures .0 ∙ ap₂ combined (c .before .before .before .before .before .before .before .before .before .before .model-from .ensures .0) (c .before .before .before .before .before .before .before .before .before .model-from2 .ensures .0) in
     let w = c .before .before .before .put-model .ensures in
     let r = models-short _ _ _ e (a .words .now) (c .before .before .before .before .before .before .if1 .left) (sym (w .0) ∙ not-true _ (c .if2 .taken)) in
     (r .0, w .1 ∙ r .1)
@@ -42,7 +42,7 @@ same-length-2 c = search needs
 returns-3 : tie.Need-returns-3
 returns-3 c =
     let a = c .before .before .before .before .before .before .before .before .before .before .before .before .before .before .args in
-    let e = c .before .before .before .before .before .before .before .before .combine .ensures .0 ∙ ap₂ combined (c .before .before .before .before .before .before .before .before .before .before .model-from .ensures) (c .before .before .before .before .before .before .before .before .before .model-from2 .ensures) in
+    let e = c .before .before .before .before .before .before .before .before .combine .ensures .0 ∙ ap₂ combined (c .before .before .before .before .before .before .before .before .before .before .model-from .ensures .0) (c .before .before .before .before .before .before .before .before .before .model-from2 .ensures .0) in
     let w = c .before .before .before .put-model .ensures in
     let r = models-combined _ _ _ e (a .words .now) (c .before .before .before .before .before .before .if1 .left) (sym (w .0) ∙ not-false _ (c .if2 .left)) in
     (r .0, w .1 ∙ r .1)

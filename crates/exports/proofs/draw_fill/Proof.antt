@@ -1,9 +1,6 @@
 -- `draw_fill` fills on the settled model, or hands on a refusal. Assumes nothing.
-use mathlib.Core.Path.{ap, _∙_}
-use mathlib.Core.List.{List}
-use Prim.Native.Nat.{ℕ}
+use mathlib.Core.Path.{_∙_}
 use borrow.Author.Needs.{needs}
-use Rattle.model.specs.Fill.{fillRefusal, filledValues}
 use Rattle.exports.proofs.Cases.{filling-refused, values-left, filling-judged, values-filled}
 use Rattle.exports.proofs.draw_fill.Statement.{statement}
 use Rattle.exports.proofs.draw_fill.Tie as tie
@@ -16,28 +13,18 @@ returns c =
     let e = c .before .before .settled .ensures in
     (filling-refused _ _ e (c .if1 .taken) _ _, values-left _ _ e (c .if1 .taken) _ _)
 
-sets-from-requires : tie.Need-sets-from-requires
-sets-from-requires c κs = search needs
-
-fill-requires : tie.Need-fill-requires
-fill-requires c κs = search needs
+filled-requires : tie.Need-filled-requires
+filled-requires c κs = search needs
 
 same-length : tie.Need-same-length
 same-length c = search needs
 
 returns-2 : tie.Need-returns-2
 returns-2 c =
-    let a = c .before .before .before .before .before .before .before .before .before .before .before .before .before .args in
-    let e = c .before .before .before .before .before .before .before .before .before .settled .ensures in
-    let z = c .before .before .before .before .before .before .before .if1 .left in
-    let m = c .before .before .before .before .before .before .before .before .before .settled .result .model in
-    let d = c .before .before .before .before .before .sets-from .ensures in
-    let f = c .before .before .fill .ensures in (
-      f .0 ∙ ap (λ (x : List ℕ). fillRefusal m x (a .values .now)) d ∙ filling-judged _ _ e z _ _,
-      f .1 .0 ∙ ap (λ (x : List ℕ). filledValues m x (a .values .now)) d ∙ values-filled _ _ e z _ _,
-    )
+    let e = c .before .before .before .before .before .before .before .settled .ensures in
+    let z = c .before .before .before .before .before .if1 .left in
+    let f = c .before .before .filled .ensures in
+    (f .0 ∙ filling-judged _ _ e z _ _, f .1 ∙ values-filled _ _ e z _ _)
 
 pub draw-fill-spec : {M : Type 1} → statement M
-draw-fill-spec =
-    tie.close
-    (tie.spec settled-requires returns sets-from-requires fill-requires same-length returns-2)
+draw-fill-spec = tie.close (tie.spec settled-requires returns filled-requires same-length returns-2)

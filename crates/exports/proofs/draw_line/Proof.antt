@@ -24,7 +24,7 @@ same-length c = search needs
 returns : tie.Need-returns
 unfolding drawLine
 returns c =
-    let r = c .before .before .before .before .read-line .ensures in (c .line-number .ensures ∙ ap (λ (x : LineRead). lineNumber (x .refusal) (x .reading .closed)) (r .0), r .1)
+    let r = c .before .before .before .before .read-line .ensures in (c .line-number .ensures ∙ ap (λ (x : LineRead). lineNumber (x .refusal) (x .reading .closed)) (r .0), r .1 .0)
 
 pub draw-line-spec : {M : Type 1} → statement M
 draw-line-spec =

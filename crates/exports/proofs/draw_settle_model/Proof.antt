@@ -25,7 +25,7 @@ same-length c = search needs
 returns : tie.Need-returns
 unfolding modelSettle modelTable
 returns c =
-    let e = c .before .before .before .before .propagate .ensures .0 ∙ ap (λ (m : Model). propagated m) (c .before .before .before .before .before .model-from .ensures) in
+    let e = c .before .before .before .before .propagate .ensures .0 ∙ ap (λ (m : Model). propagated m) (c .before .before .before .before .before .model-from .ensures .0) in
     let t = c .before .before .before .before .before .before .before .before .args .table .now in (
       c .before .before .settle-number .ensures .0 ∙ ap (λ (p : Propagated). settleNumber (fitted (length t) p)) e,
       c .before .before .settle-number .ensures .1 ∙ ap (λ (p : Propagated). tableAfter (fitted (length t) p) t) e,

@@ -26,7 +26,7 @@ returns : tie.Need-returns
 unfolding modelSheet
 returns c =
     let a = c .before .before .before .before .before .before .before .before .args in
-    let m = c .before .before .before .before .before .model-from .ensures in (
+    let m = c .before .before .before .before .before .model-from .ensures .0 in (
       c .written-number .ensures
           ∙ ap (λ (w : Written). writtenNumber w) (c .before .before .before .write-sheet .ensures .0 ∙ ap (λ (x : Model). writtenSheet x (length (a .buffer .now))) m),
       c .before .before .before .write-sheet .ensures .1 .0 ∙ ap (λ (x : Model). sheetBuffer x (a .buffer .now)) m,

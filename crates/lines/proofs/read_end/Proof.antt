@@ -36,7 +36,7 @@ unfolding lineEnd valuesAtEnd
 returns-2 c =
     let whole = c .before .before .before .before .before .before .before .if1 .left in
     let read = c .before .before .before .before .before .read-line .ensures in
-    (rw (whole, c .line-start2 .ensures, c .before .next2 .ensures, read .0), rw whole (read .1))
+    (rw (whole, c .line-start2 .ensures, c .before .next2 .ensures, read .0), rw whole (read .1 .0))
 
 pub read-end-spec : {M : Type 1} → statement M
 read-end-spec =

@@ -8,7 +8,7 @@ returns : tie.Need-returns
 returns c = keep-same (c .after .ensures)
 
 returns-2 : tie.Need-returns-2
-returns-2 c = keep-to (c .before .before .before .forget .ensures) (c .after2 .ensures)
+returns-2 c = keep-to (c .before .before .before .forget .ensures .0) (c .after2 .ensures)
 
 pub forgotten-spec : {M : Type 1} → statement M
 forgotten-spec =

@@ -114,6 +114,7 @@ returns c =
     (no-rule-left (run (map (constraintRule (m .n)) (take (m .c) (m .constraints)))) (constraintRule (m .n)) (take (m .c) (m .constraints)) _ (c .before .before .before .before .before .before .loop .j) _ (c .before .before .before .before .before .before .loop .inv) (omega (arith, length-take (m .c) (m .constraints), c .before .before .before .before .before .loop-test .left)))
     in
     record {
+      sized = c .before .before .before .before .before .before .before .before .before .before .before .before .before .before .before .before .before .before .whole .ensures .2;
       before = u .0;
       whole = p .0;
       pass = p .1 ∙ ap (run (rules (m .n) (m .s) (take (m .c) (m .constraints)))) (u .1);

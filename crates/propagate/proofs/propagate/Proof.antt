@@ -2,8 +2,8 @@
 use mathlib.Core.Path.{refl}
 use native.Mathlib.Omega.{arith}
 use borrow.Author.Tests.{not-true, not-false}
-use borrow.Author.Needs.{needs}
 use Rattle.propagate.proofs.Passes.{s-some, s-few, n-few, c-few, constraints-in, constraints-stand, range-false, range-true, fuel-fits, refused-20}
+use Rattle.propagate.proofs.Demand.{out-of-range, in-demand}
 use Rattle.propagate.proofs.Settling.{first-same, first-other, no-fuel, not-tenable, is-settled}
 use borrow.Author.Needs.{needs}
 use Rattle.propagate.proofs.propagate.Statement.{statement}
@@ -16,7 +16,7 @@ refused-requires : tie.Need-refused-requires
 refused-requires c κs = search needs
 
 returns : tie.Need-returns
-returns c = refused-20 (c .before .before .before .args .m) (range-false (c .before .before .before .args .m) _ (c .before .before .in-range .ensures) (not-true _ (c .before .if1 .taken))) _ (c .refused .ensures)
+returns c = out-of-range (c .before .before .before .args .m) _ (c .refused .ensures) (refused-20 (c .before .before .before .args .m) (range-false (c .before .before .before .args .m) _ (c .before .before .in-range .ensures) (not-true _ (c .before .if1 .taken))) _ (c .refused .ensures))
 
 passed-requires : tie.Need-passed-requires
 passed-requires c κs = range-true (c .before .before .args .m) _ (c .before .in-range .ensures) (not-false _ (c .if1 .left))
@@ -29,7 +29,7 @@ returns-2 c =
     let m = c .before .before .before .before .before .before .before .before .args .m in
     let t = range-true m _ (c .before .before .before .before .before .before .before .in-range .ensures) (not-false _ (c .before .before .before .before .before .before .if1 .left)) in
     let p = c .before .before .before .before .before .passed .ensures in
-    not-tenable m t (m .groups) (p .before) refl _ _ (first-same m t (m .groups) _ (p .before) (p .whole) (p .pass) _ (p .same-is) (c .before .before .before .if2 .taken)) (λ e. omega arith) _ (p .ok-is) (not-true _ (c .before .if3 .taken)) _ (c .refused2 .ensures)
+    in-demand m t (p .sized) _ (not-tenable m t (m .groups) (p .before) refl _ _ (first-same m t (m .groups) _ (p .before) (p .whole) (p .pass) _ (p .same-is) (c .before .before .before .if2 .taken)) (λ e. omega arith) _ (p .ok-is) (not-true _ (c .before .if3 .taken)) _ (c .refused2 .ensures))
 
 done-requires : tie.Need-done-requires
 done-requires c κs = search needs
@@ -39,7 +39,7 @@ returns-3 c =
     let m = c .before .before .before .before .before .before .before .before .args .m in
     let t = range-true m _ (c .before .before .before .before .before .before .before .in-range .ensures) (not-false _ (c .before .before .before .before .before .before .if1 .left)) in
     let p = c .before .before .before .before .before .passed .ensures in
-    is-settled m t (m .groups) (p .before) refl _ _ (first-same m t (m .groups) _ (p .before) (p .whole) (p .pass) _ (p .same-is) (c .before .before .before .if2 .taken)) (λ e. omega arith) _ (p .ok-is) (not-false _ (c .before .if3 .left)) _ (c .done .ensures)
+    in-demand m t (p .sized) _ (is-settled m t (m .groups) (p .before) refl _ _ (first-same m t (m .groups) _ (p .before) (p .whole) (p .pass) _ (p .same-is) (c .before .before .before .if2 .taken)) (λ e. omega arith) _ (p .ok-is) (not-false _ (c .before .if3 .left)) _ (c .done .ensures))
 
 cast-s : tie.Need-cast-s
 cast-s c = search needs
@@ -82,7 +82,7 @@ returns-4 c =
     let m = c .before .before .before .before .before .before .before .before .before .before .before .before .before .before .before .before .args .m in
     let t = range-true m _ (c .before .before .before .before .before .before .before .before .before .before .before .before .before .before .before .in-range .ensures) (not-false _ (c .before .before .before .before .before .before .before .before .before .before .before .before .before .before .if1 .left)) in
     let p = c .before .before .before .before .before .before .before .before .before .before .before .before .before .passed .ensures in
-    no-fuel m t (m .groups) (p .before) refl _ _ (first-other m t (m .groups) _ (p .before) (p .whole) (p .pass) _ (p .same-is) (c .before .before .before .before .before .before .before .before .before .before .before .if2 .left) _ _ (c .before .before .before .run-marked .ensures)) (c .before .if4 .taken) _ (c .refused3 .ensures)
+    in-demand m t (p .sized) _ (no-fuel m t (m .groups) (p .before) refl _ _ (first-other m t (m .groups) _ (p .before) (p .whole) (p .pass) _ (p .same-is) (c .before .before .before .before .before .before .before .before .before .before .before .if2 .left) _ _ (c .before .before .before .run-marked .ensures)) (c .before .if4 .taken) _ (c .refused3 .ensures))
 
 is-tenable-requires : tie.Need-is-tenable-requires
 is-tenable-requires c κs =
@@ -98,7 +98,7 @@ returns-5 c =
     let m = c .before .before .before .before .before .before .before .before .before .before .before .before .before .before .before .before .before .before .before .args .m in
     let t = range-true m _ (c .before .before .before .before .before .before .before .before .before .before .before .before .before .before .before .before .before .before .in-range .ensures) (not-false _ (c .before .before .before .before .before .before .before .before .before .before .before .before .before .before .before .before .before .if1 .left)) in
     let p = c .before .before .before .before .before .before .before .before .before .before .before .before .before .before .before .before .passed .ensures in
-    not-tenable m t (m .groups) (p .before) refl _ _ (first-other m t (m .groups) _ (p .before) (p .whole) (p .pass) _ (p .same-is) (c .before .before .before .before .before .before .before .before .before .before .before .before .before .before .if2 .left) _ _ (c .before .before .before .before .before .before .run-marked .ensures)) (c .before .before .before .before .if4 .left) _ (c .before .before .is-tenable .ensures) (not-true _ (c .before .if5 .taken)) _ (c .refused4 .ensures)
+    in-demand m t (p .sized) _ (not-tenable m t (m .groups) (p .before) refl _ _ (first-other m t (m .groups) _ (p .before) (p .whole) (p .pass) _ (p .same-is) (c .before .before .before .before .before .before .before .before .before .before .before .before .before .before .if2 .left) _ _ (c .before .before .before .before .before .before .run-marked .ensures)) (c .before .before .before .before .if4 .left) _ (c .before .before .is-tenable .ensures) (not-true _ (c .before .if5 .taken)) _ (c .refused4 .ensures))
 
 done-requires-2 : tie.Need-done-requires-2
 done-requires-2 c κs = search needs
@@ -108,7 +108,7 @@ returns-6 c =
     let m = c .before .before .before .before .before .before .before .before .before .before .before .before .before .before .before .before .before .before .before .args .m in
     let t = range-true m _ (c .before .before .before .before .before .before .before .before .before .before .before .before .before .before .before .before .before .before .in-range .ensures) (not-false _ (c .before .before .before .before .before .before .before .before .before .before .before .before .before .before .before .before .before .if1 .left)) in
     let p = c .before .before .before .before .before .before .before .before .before .before .before .before .before .before .before .before .passed .ensures in
-    is-settled m t (m .groups) (p .before) refl _ _ (first-other m t (m .groups) _ (p .before) (p .whole) (p .pass) _ (p .same-is) (c .before .before .before .before .before .before .before .before .before .before .before .before .before .before .if2 .left) _ _ (c .before .before .before .before .before .before .run-marked .ensures)) (c .before .before .before .before .if4 .left) _ (c .before .before .is-tenable .ensures) (not-false _ (c .before .if5 .left)) _ (c .done2 .ensures)
+    in-demand m t (p .sized) _ (is-settled m t (m .groups) (p .before) refl _ _ (first-other m t (m .groups) _ (p .before) (p .whole) (p .pass) _ (p .same-is) (c .before .before .before .before .before .before .before .before .before .before .before .before .before .before .if2 .left) _ _ (c .before .before .before .before .before .before .run-marked .ensures)) (c .before .before .before .before .if4 .left) _ (c .before .before .is-tenable .ensures) (not-false _ (c .before .if5 .left)) _ (c .done2 .ensures))
 
 pub propagate-spec : {M : Type 1} → statement M
 propagate-spec =

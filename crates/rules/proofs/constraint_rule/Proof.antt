@@ -18,7 +18,7 @@ applied-requires-2 : tie.Need-applied-requires-2
 applied-requires-2 c κs = search needs
 
 returns : tie.Need-returns
-returns c = constraint-made (c .before .before .before .before .before .before .before .before .before .before .before .before .before .before .before .before .args .all) _ (c .before .before .before .before .before .before .before .before .before .before .before .before .before .before .before .before .args .c) (c .before .before .before .before .before .before .before .before .before .before .before .before .before .before .before .before .args .fixed .now) (c .before .before .before .before .before .before .before .before .before .before .before .before .before .before .before .before .args .possible .now) (c .before .before .before .before .before .before .before .before .before .before .before .before .before .before .before .before .args .low .now) (c .before .before .before .before .before .before .before .before .before .before .before .before .before .before .before .before .args .high .now) _ _ _ _ (c .before .before .before .before .before .before .before .before .before .before .before .sized .ensures .1 .0) (c .before .before .before .before .before .before .before .before .before .before .before .sized .ensures .1 .1) (c .before .before .before .before .before .before .before .before .scope .ensures) (c .before .before .before .applied .ensures) (c .applied2 .ensures)
+returns c = constraint-made (c .before .before .before .before .before .before .before .before .before .before .before .before .before .before .before .before .args .all) _ (c .before .before .before .before .before .before .before .before .before .before .before .before .before .before .before .before .args .c) (c .before .before .before .before .before .before .before .before .before .before .before .before .before .before .before .before .args .fixed .now) (c .before .before .before .before .before .before .before .before .before .before .before .before .before .before .before .before .args .possible .now) (c .before .before .before .before .before .before .before .before .before .before .before .before .before .before .before .before .args .low .now) (c .before .before .before .before .before .before .before .before .before .before .before .before .before .before .before .before .args .high .now) _ _ _ _ (c .before .before .before .before .before .before .before .before .before .before .before .sized .ensures .1 .0) (c .before .before .before .before .before .before .before .before .before .before .before .sized .ensures .1 .1) (c .before .before .before .before .before .before .before .before .scope .ensures) (c .before .before .before .applied .ensures) (c .applied2 .ensures .1 .1)
 
 pub constraint-rule-spec : {M : Type 1} → statement M
 constraint-rule-spec =

@@ -1,8 +1,8 @@
 -- `unpacked` reads the groups into arrays. Invariant: the first i are read, and the others are zero. Assumes nothing.
 use Rattle.model.specs.Limits.{limits}
 use Prim.Native.Nat.{_≤_, _-_}
-use Rattle.table.specs.Table.{groupsIn}
-use Rattle.table.proofs.Arrays.{Read, read-none, read-next, read-all}
+use Rattle.table.specs.Table.{groupsIn, Whole}
+use Rattle.table.proofs.Arrays.{Read, read-none, read-next, read-all, read-arrays}
 use native.Mathlib.Omega.{arith}
 use Rattle.table.proofs.unpacked.Statement.{statement}
 use Rattle.table.proofs.unpacked.Tie as tie
@@ -57,7 +57,11 @@ loop-again c = (omega arith, read-next ((c .before .before .before .args .t1)) (
 
 returns : tie.Need-returns Inv-loop μ-loop
 unfolding groupsIn
-returns c = (omega (arith, (c .before .before .good .0)), read-all ((c .before .before .args .t1)) (omega (arith, (c .before .before .good .0))) ((c .before .loop .i)) _ _ _ _ ((c .before .loop .inv .1)) (omega arith))
+returns c =
+    let gs = c .before .before .args .t1 in
+    let w : Whole gs = omega (arith, c .before .before .good .0) in
+    let r = c .before .loop .inv .1 in
+    (w, read-all gs w (c .before .loop .i) _ _ _ _ r (omega arith), read-arrays gs w (c .before .loop .i) _ _ _ _ r (omega arith))
 
 pub unpacked-spec : {M : Type 1} → statement M
 unpacked-spec =

@@ -1,39 +1,34 @@
--- `model_from`: its five fields. Assumes nothing.
-use mathlib.Core.Path.{_≡_, refl}
+-- `model_from`: all the words of a model, or none. Assumes nothing.
+use mathlib.Core.Path.{_≡_, sym, _∙_, subst}
 use mathlib.Core.List.{List}
 use Prim.Native.Nat.{ℕ}
-use Rattle.model.specs.declared.Group.{Group}
-use Rattle.model.specs.declared.Constraint.{Constraint}
+use native.Mathlib.Omega.{arith}
 use Rattle.model.specs.declared.Model.{Model}
-use Rattle.words.specs.Words.{modelFrom}
 use borrow.Author.Needs.{needs}
+use Rattle.words.specs.Words.{modelFrom, HandedOver}
+use Rattle.words.proofs.Kept.{handed-over, short-model, long-model}
 use Rattle.words.proofs.model_from.Statement.{statement}
 use Rattle.words.proofs.model_from.Tie as tie
 
-model-of : (a b c x y z : ℕ) (g h : List Group) (l k : List Constraint) → a ≡ x → b ≡ y → c ≡ z → g ≡ h → l ≡ k
-    → _≡_ {A = Model} (record { n = a; s = b; c = c; groups = g; constraints = l }) (record { n = x; s = y; c = z; groups = h; constraints = k })
-model-of a b c x y z g h l k p q r s t = rw (p, q, r, s, t) refl
+promised : (words : List ℕ) (m : Model) → m ≡ modelFrom words → (m ≡ modelFrom words) × HandedOver words m
+promised words m e = (e, subst (HandedOver words) (sym e) (handed-over words))
 
-number-at-requires : tie.Need-number-at-requires
-number-at-requires c κs = search needs
+slice-aggregate-model-of : tie.Need-slice-aggregate-model-of
+slice-aggregate-model-of c = search needs
 
-number-at-requires-2 : tie.Need-number-at-requires-2
-number-at-requires-2 c κs = search needs
-
-number-at-requires-3 : tie.Need-number-at-requires-3
-number-at-requires-3 c κs = search needs
-
-groups-from-requires : tie.Need-groups-from-requires
-groups-from-requires c κs = search needs
-
-constraints-from-requires : tie.Need-constraints-from-requires
-constraints-from-requires c κs = search needs
+model-of-requires : tie.Need-model-of-requires
+model-of-requires c κs = search needs
 
 returns : tie.Need-returns
-unfolding modelFrom
-returns c = model-of _ _ _ _ _ _ _ _ _ _ (c .before .before .before .before .number-at .ensures) (c .before .before .before .number-at2 .ensures) (c .before .before .number-at3 .ensures) (c .before .groups-from .ensures) (c .constraints-from .ensures)
+returns c = promised _ _ (c .model-of .ensures ∙ short-model _ (c .before .before .if1 .taken))
+
+model-of-requires-2 : tie.Need-model-of-requires-2
+model-of-requires-2 c κs = search needs
+
+returns-2 : tie.Need-returns-2
+returns-2 c = promised _ _ (c .model-of2 .ensures ∙ long-model _ (omega (arith, c .before .if1 .left)))
 
 pub model-from-spec : {M : Type 1} → statement M
 model-from-spec =
     tie.close
-    (tie.spec number-at-requires number-at-requires-2 number-at-requires-3 groups-from-requires constraints-from-requires returns)
+    (tie.spec slice-aggregate-model-of model-of-requires returns model-of-requires-2 returns-2)
