@@ -1,4 +1,6 @@
 // A solver's answer as text: the groups of a draw, a line for each, and the values of the variables; and an assignment as a solver would say it.
+#![tactic(auto)]
+
 ghost use Rattle.std.specs.Prelude.{◌≡◌, ◌+◌, ◌*◌, ◌≤◌, ◌<◌, min, length};
 ghost use Rattle.model.specs.Lists.{each, range};
 ghost use Rattle.model.specs.Assignment.{is_said};
@@ -210,7 +212,7 @@ const WORD_MOST: usize = 7;
 const ASSIGNMENT_MOST: usize = 9 * Model::VARIABLES + 6;
 
 // Where the next word goes: its place, and how many columns of the line are taken.
-#[derive(Drop)]
+#[derive(Clone, Copy)]
 struct Pen {
     at: usize,
     column: usize,

@@ -1,4 +1,6 @@
 // From bytes to groups: a sheet and a solver's whole output, read, settled, read back and closed. Four of the entries one after the other, with nothing lent.
+#![tactic(auto)]
+
 ghost use Rattle.std.specs.Prelude.{◌≡◌, ◌+◌, min, length, replicate};
 ghost use Rattle.model.specs.Limits.{limits};
 ghost use Rattle.model.specs.Sheet.{lines_of};
@@ -9,7 +11,7 @@ ghost use Rattle.answering.specs.Answers.{no_groups, answered, Answers, EachDraw
 use model::{Closed, Model, Reading};
 
 // The groups, a word for each of the sheet's s; or a refusal, the sheet's line where the reader gave it, and zeros.
-#[derive(Drop)]
+#[derive(Clone, Copy)]
 pub struct Answered {
     pub refusal: u32,
     pub line: u32,

@@ -1,4 +1,6 @@
 // Solver lines: the form of the whole line first, then its literals one by one. A refused line changes no value.
+#![tactic(auto)]
+
 ghost use Rattle.std.specs.Prelude.{◌≡◌, false, ◌<◌, length, get_or};
 ghost use Rattle.model.specs.Assignment.{line_read, values_after};
 ghost use Rattle.correctness.specs.Entries.{LineReads};

@@ -1,4 +1,6 @@
 // The blocks of a listing: where each group's start, how many there are, and whether one may be asked for.
+#![tactic(auto)]
+
 ghost use Rattle.std.specs.Prelude.{◌≡◌, cond, ◌+◌, ◌*◌, ◌≤◌, take};
 ghost use Rattle.model.specs.Lists.{total};
 ghost use Rattle.model.specs.Limits.{limits};
@@ -36,7 +38,7 @@ fn nodes_where(counts: bool, g: Group) -> u32
 }
 
 // The first block of each group, had it any, and the first line's.
-#[derive(Drop)]
+#[derive(Clone, Copy)]
 pub struct Division {
     pub first: [u32; Model::GROUPS],
     pub lines: u32,

@@ -1,4 +1,6 @@
 // Buffers that are lent: made all zeros; whether one is all of one byte.
+#![tactic(auto)]
+
 ghost use Rattle.std.specs.Prelude.{◌≡◌, eqb, length, replicate};
 ghost use Rattle.model.specs.Lists.{every};
 

@@ -1,4 +1,6 @@
 // A sheet and a certificate: whether the sheet has no draw. The clauses are the block writer's own; the certificate may come in pieces.
+#![tactic(auto)]
+
 ghost use Rattle.std.specs.Prelude.{◌≡◌, Bool, true, List, ℕ, ◌≤◌, T};
 ghost use Rattle.model.specs.Propagate.{Settled};
 ghost use Rattle.model.specs.Close.{satisfying};
@@ -11,7 +13,7 @@ use model::Model;
 use refutation::State;
 
 // What is known before the certificate is read.
-#[derive(Drop)]
+#[derive(Clone, Copy)]
 pub enum Opening {
     // the reader's refusal and line
     Refused(u32, u32),
@@ -19,7 +21,7 @@ pub enum Opening {
     Open,
 }
 
-#[derive(Drop)]
+#[derive(Clone, Copy)]
 pub enum Verdict {
     Refused(u32, u32),
     SettledOut,
@@ -29,7 +31,7 @@ pub enum Verdict {
 }
 
 // A sheet whose certificate is being read.
-#[derive(Drop)]
+#[derive(Clone, Copy)]
 pub struct Standing {
     pub opening: Opening,
     pub reader: Reader,

@@ -1,5 +1,7 @@
 // The clauses of a constraint, document 01's line rule: where all other literals are settled false, this one is made true, for all entrants at once.
 // On two arrays of the table, the fixed and the possible entrants of each group. Total: a member that is not there is group 0, a group that is not there has nobody.
+#![tactic(auto)]
+
 ghost use Rattle.std.specs.Prelude.{◌≡◌, List, [], ◌∷◌, map, ℕ, ◌-◌, length, get_or};
 ghost use Rattle.model.specs.declared.Literal.TheVariants.{Pos, Neg};
 ghost use Rattle.model.specs.Limits.{limits};
@@ -182,7 +184,7 @@ fn triple_rule(
 // ---- the clauses of a union, F1 .. Fk -H and then -Fi H
 
 // The entrants of w who are possible in none of F1 .. Fk, and those who are in one at most.
-#[derive(Drop)]
+#[derive(Clone, Copy)]
 struct Counted {
     none: u64,
     one: u64,

@@ -57,6 +57,7 @@ pub root-room : (m v o end : ℕ) → end ≡ o + tree_output_count m → 2 ≤ 
 root-room m v o end e h = omega (arith, root-more m v o h)
 
 pub root_among : (m v o : ℕ) → 1 ≤ m → Among v m → Among o (tree_output_count m) → Among (root_output (shape m) v o) m
+root_among zero v o h x y = elim h [ ]
 root_among (suc zero) v o h x y = omega (arith, root-one 1 v o (omega arith))
 root_among (suc (suc m)) v o h x y = omega (arith, root-more (suc (suc m)) v o (omega arith))
 

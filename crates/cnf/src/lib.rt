@@ -1,4 +1,6 @@
 // The block writer: one block of the listing in a buffer of the caller's. The third step of the chain.
+#![tactic(auto)]
+
 mod totalizer;
 
 ghost use Rattle.std.specs.Prelude.{◌≡◌, map, T, leb, ◌+◌, ◌-◌, ◌*◌, ◌≤◌, ◌<◌, length, get_or, take};
@@ -59,7 +61,7 @@ fn most_bytes(m: u32) -> usize
 }
 
 // Where a part of a group's blocks ends: the place after what is written, the first block that is not, and the first that was not asked for.
-#[derive(Drop)]
+#[derive(Clone, Copy)]
 struct Part {
     at: usize,
     next: u32,
@@ -261,7 +263,7 @@ fn constraint_block_fits(
 // ---- a run of blocks
 
 // A run of blocks: 0, the first block that is not written and the length of the text; or a refusal, the block asked for and 0.
-#[derive(Drop)]
+#[derive(Clone, Copy)]
 pub struct Run {
     pub refusal: u32,
     pub next: u32,

@@ -54,7 +54,7 @@ fn output_term(first: u32, size: u32, l: Literal) -> Term
     }
 }
 
-#[derive(Drop)]
+#[derive(Clone, Copy)]
 struct Terms {
     c: Term,
     d: Term,
@@ -218,7 +218,7 @@ pub(crate) fn least(a: u32, b: u32) -> u32
 }
 
 // The place after what is written, and the first block that is not.
-#[derive(Drop)]
+#[derive(Clone, Copy)]
 pub(crate) struct Place {
     pub(crate) at: usize,
     pub(crate) next: u32,

@@ -1,4 +1,6 @@
 // Combining: the sheets of two committees over the same entrants and groups, made one by the desk's rule.
+#![tactic(auto)]
+
 ghost use Rattle.std.specs.Prelude.{◌≡◌, map, ◌++◌, ◌+◌, ◌-◌, ◌≤◌, take, replicate};
 ghost use Rattle.model.specs.Limits.{limits};
 ghost use Rattle.model.specs.Model.{zero_group, zero_constraint, Whole};
@@ -144,7 +146,7 @@ fn first_entrant(w: u64) -> u32
 }
 
 // A group in which two sheets clash, and there the first entrant whom one bars and the other fixes; 0 where there is none.
-#[derive(Drop)]
+#[derive(Clone, Copy)]
 pub struct Clash {
     pub group: u32,
     pub entrant: u32,

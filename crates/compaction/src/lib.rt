@@ -1,4 +1,6 @@
 // Compaction: the clauses that are not forgotten move down in the store, in their order.
+#![tactic(auto)]
+
 ghost use Rattle.std.specs.Prelude.{ℕ, ◌+◌, ◌≤◌, ◌<◌, ◌≡◌, Bool, List, length, get_or};
 ghost use Rattle.refutation.specs.Sound.{Keeps};
 ghost use Rattle.compaction.specs.Walk.{Walk, MovedDown};

@@ -1,4 +1,6 @@
 // The table of document 01's "Lines and their clauses", over the members of a constraint: propagation, block writer and closing read it here.
+#![tactic(auto)]
+
 ghost use Rattle.std.specs.Prelude.{◌≡◌, [], ◌<◌, T, length, get_or};
 ghost use Rattle.model.specs.declared.Literal.TheVariants.{Pos};
 ghost use Rattle.model.specs.Clauses.{short_clauses, union_clauses, member_clauses};

@@ -1,4 +1,6 @@
 // Whether groups satisfy a constraint: its clauses, judged for all entrants at once, or what its code says of their sets. On a word for each group.
+#![tactic(auto)]
+
 ghost use Rattle.std.specs.Prelude.{◌≡◌, ◌+◌, [], map, length, get_or, take, drop};
 ghost use Rattle.model.specs.Limits.{limits};
 ghost use Rattle.model.specs.Lists.{every};

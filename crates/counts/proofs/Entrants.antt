@@ -24,7 +24,7 @@ use Rattle.model.specs.Cnf.{difference_count, clauses_at, constraint_clauses}
 use Rattle.model.proofs.Lists.{All, any-map, any_none, every-range, places-all, total_const, range_last, total-append, length-each}
 use Rattle.encoding_laws.proofs.Fixpoint.{SettledAmong}
 use Rattle.encoding_laws.proofs.Groups.{constraint-count}
-use Rattle.encoding_laws.proofs.Differences.{six-last, apart-clauses, is_open, last-is}
+use Rattle.encoding_laws.proofs.Differences.{six-last, apart-clauses, is_open as is_open_lem, last-is}
 use Rattle.terms.specs.declared.Member.{Member}
 use Rattle.terms.specs.Terms.{absent, present, member_number, number_at, is_open, number_term, literal_term, clause_of, clause_terms, MembersBelow}
 use Rattle.terms.proofs.Constraints.{Saying, clause-first, entrant-is}
@@ -123,6 +123,6 @@ module _ (t : List Group) (c : Constraint) where
     unfolding constraint_clauses
     seven-length s clear k e =
         sym (constraint-count t c 0 1 n
-        ∙ ap (λ (l : List (List Literal)). length (each (clauses_at 1 t c) (range 0 n) ++ l)) (last-is n 1 t s c (is_open t c seven clear))
+        ∙ ap (λ (l : List (List Literal)). length (each (clauses_at 1 t c) (range 0 n) ++ l)) (last-is n 1 t s c (is_open_lem t c seven clear))
         ∙ length-append (each (clauses_at 1 t c) (range 0 n)) (map Pos (range 1 (difference_count t c)) ∷ [])
         ∙ omega arith)

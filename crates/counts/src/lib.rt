@@ -1,4 +1,6 @@
 // How many clauses the listing of a model has: C of its first line.
+#![tactic(auto)]
+
 ghost use Rattle.std.specs.Prelude.{◌≡◌, ◌+◌, ◌-◌, ◌*◌, ◌≤◌, T, length, take};
 ghost use Rattle.model.specs.Lists.{every, total};
 ghost use Rattle.model.specs.Limits.{limits};
@@ -19,7 +21,7 @@ use terms::Member;
 // ---- groups
 
 // How many clauses a tree has, and one of a leaf more.
-#[derive(Drop)]
+#[derive(Clone, Copy)]
 struct Clauses {
     own: u32,
     more: u32,

@@ -1,5 +1,7 @@
 // Code 7, groups that must not be the same: whether an entrant differs already, and who has a variable X. Read by numbering, counts, block writer,
 // closing and filling.
+#![tactic(auto)]
+
 ghost use Rattle.std.specs.Prelude.{◌≡◌, cond, ◌-◌, ◌<◌, ltb, eqb, take};
 ghost use Rattle.model.specs.Limits.{limits};
 ghost use Rattle.model.specs.Model.{group_at};

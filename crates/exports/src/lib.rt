@@ -1,4 +1,6 @@
 // What a Rust program calls: each entry on numbers and slices, its answer as one number.
+#![tactic(auto)]
+
 ghost use Rattle.std.specs.Prelude.{◌≡◌, ◌≤◌, length};
 ghost use Rattle.model.specs.Limits.{limits};
 ghost use Rattle.model.specs.Assignment.{values_after};

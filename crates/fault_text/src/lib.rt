@@ -1,4 +1,6 @@
 // What is wrong with a refused sheet as the message that is printed, in words for the counter.
+#![tactic(auto)]
+
 ghost use Rattle.std.specs.Prelude.{◌≡◌};
 ghost use Rattle.report.specs.Messages.{message, Counted, added};
 ghost use Rattle.fault_text.specs.Texts.{name_text, shown_byte, tab_text, width_text, unread_text, outside_text, count_text, marks_text, due_text, lines_text, unended_text, fault_text};

@@ -1,5 +1,7 @@
 // Filling: whether a word for each group is a draw of a settled model, and the values of its one satisfying assignment. The way back from closing.
 // A draw is judged on sets, and values are written in their order, the variables', the outputs', then the X of code 7.
+#![tactic(auto)]
+
 ghost use Rattle.std.specs.Prelude.{◌≡◌, ◌+◌, ◌≤◌, ◌<◌, T, length, take};
 ghost use Rattle.model.specs.Lists.{every, each, pairwise, each_pair};
 ghost use Rattle.model.specs.Limits.{limits};

@@ -1,4 +1,6 @@
 // The groups of a draw from text, as it is printed: a line for each group in order, `1: 3 7 9`.
+#![tactic(auto)]
+
 ghost use Rattle.std.specs.Prelude.{◌≡◌, ◌+◌, ◌≤◌, min, length, drop};
 ghost use Rattle.model.specs.Limits.{limits};
 ghost use Rattle.group_lines.specs.Lines.{number_in, group_in, wrong, entrants_line, line_read, refused, groups_read};
@@ -20,7 +22,7 @@ const OUTSIDE: u32 = 5;
 const ENTRANT_TWICE: u32 = 6;
 
 // The reader's answer: a word for each group; or what is wrong, its line, the number of the group or entrant that it is about, and zeros.
-#[derive(Drop)]
+#[derive(Clone, Copy)]
 pub struct GroupsRead {
     pub fault: u32,
     pub line: u32,
@@ -29,7 +31,7 @@ pub struct GroupsRead {
 }
 
 // What a line gives: its group's word; or what is wrong, and the number that it is about.
-#[derive(Drop)]
+#[derive(Clone, Copy)]
 struct Line {
     fault: u32,
     number: u32,

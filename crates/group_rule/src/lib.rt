@@ -1,4 +1,6 @@
 // What settling does with one group: its rule, whether it is consistent, and whether two are the same.
+#![tactic(auto)]
+
 ghost use Rattle.std.specs.Prelude.{◌≡◌, cond, min, max, eqb};
 ghost use Rattle.std.specs.Int.Bits.{bit_and, bit_or};
 ghost use Rattle.model.specs.Words.{size};

@@ -1,4 +1,6 @@
 // The limits of a constraint, request 1 of document 02: what low and high pass on from group to group.
+#![tactic(auto)]
+
 ghost use Rattle.std.specs.Prelude.{◌≡◌, map, ◌+◌, ◌-◌, ◌≤◌, min, length, get_or, take, drop};
 ghost use Rattle.model.specs.Limits.{limits};
 ghost use Rattle.model.specs.Lists.{total, on_place};

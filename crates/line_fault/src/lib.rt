@@ -1,4 +1,6 @@
 // What is wrong with a refused line of a sheet, and where: the words for the counter are in fault_text.
+#![tactic(auto)]
+
 ghost use Rattle.std.specs.Prelude.{◌≡◌, ◌&&◌, ◌-◌, ◌≤◌, min, eqb, length, get_or};
 ghost use Rattle.model.specs.Limits.{limits};
 ghost use Rattle.model.specs.Sheet.{value_at, good_field, count_from};
@@ -7,7 +9,7 @@ ghost use Rattle.line_fault.specs.Fault.{columns, order_mark, tab_at, form_fault
 use model::{Field, Model};
 
 // What the head says.
-#[derive(Drop)]
+#[derive(Clone, Copy)]
 pub struct Head {
     pub n: u32,
     pub s: u32,
@@ -15,14 +17,14 @@ pub struct Head {
 }
 
 // The columns of a field, counted from 1.
-#[derive(Drop)]
+#[derive(Clone, Copy)]
 pub struct Columns {
     pub first: u32,
     pub last: u32,
 }
 
 // The bytes of a field.
-#[derive(Drop)]
+#[derive(Clone, Copy)]
 pub struct Four {
     pub a: u8,
     pub b: u8,
@@ -31,7 +33,7 @@ pub struct Four {
 }
 
 // What a number is, with the least and the most that it may be.
-#[derive(Drop)]
+#[derive(Clone, Copy)]
 pub struct Range {
     pub name: u32,
     pub low: u32,
@@ -63,7 +65,7 @@ const KIND: u32 = 11;
 
 const NEXT_GROUP: u32 = 12;
 
-#[derive(Drop)]
+#[derive(Clone, Copy)]
 pub enum Fault {
     Nothing,
     OrderMark,

@@ -6,12 +6,9 @@ use mathlib.Core.List.{List, [], ◌∷◌}
 use mathlib.Core.Option.{Option, none, some}
 use native.Mathlib.Omega.{arith}
 use borrow.Author.Tests.{ne_eqb}
-use denote.Enum.Declared.{tag_of}
-use types.Run.{OneOf, miss}
 use lib.Dec.{eqb}
 use lib.ListN.{length, take, drop, get_or}
 use lib.Seq.{take_all}
-use Rattle.model.specs.contracts.Word.{the_type}
 use Rattle.model.specs.declared.Literal.{Literal}
 use Rattle.model.specs.declared.Word.{Word}
 use Rattle.model.specs.declared.Word.TheVariants.{Names, Closing, Malformed}
@@ -28,8 +25,8 @@ is_names Closing = false
 is_names Malformed = false
 
 -- the else of `let Word::Names(l) = .. else`
-pub not-names : (x : Word) → OneOf (1 ∷ 2 ∷ []) (tag_of the_type x) → is_names x ≡ false
-not-names (Names l) k = absurd (miss (1 ∷ 2 ∷ []) 0 tt k)
+pub not-names : (x : Word) → ((l : _) → x ≡ Names l → ⊥) → is_names x ≡ false
+not-names (Names l) k = absurd (k l refl)
 not-names Closing k = refl
 not-names Malformed k = refl
 

@@ -1,4 +1,6 @@
 // The words of a solver's `v` line and its form: literals, and at the end a closing 0 or none.
+#![tactic(auto)]
+
 ghost use Rattle.std.specs.Prelude.{◌≡◌, cond, leb, length};
 ghost use Rattle.std.proofs.Math.Option.{none};
 ghost use Rattle.model.specs.Sheet.{number_of, digits_value, if_none, or_zero};
@@ -8,14 +10,14 @@ ghost use Rattle.line_form.specs.Form.{word_length, form_from, form_refusal, for
 use model::{Digits, Literal, Word};
 
 // A good form: how many literals the line names, and whether a closing 0 ends it.
-#[derive(Drop)]
+#[derive(Clone, Copy)]
 pub struct Shape {
     pub count: usize,
     pub closed: bool,
 }
 
 // The form of a `v` line.
-#[derive(Drop)]
+#[derive(Clone, Copy)]
 pub enum Form {
     Wrong,
     Good(Shape),

@@ -1,4 +1,6 @@
 // A solver's output cut into lines, in whatever pieces it comes: each line is read as it ends. A call stops after a line that is refused.
+#![tactic(auto)]
+
 ghost use Rattle.std.specs.Prelude.{◌≡◌, length, take, set};
 ghost use Rattle.lines.specs.Lines.{fresh_cut};
 ghost use Rattle.lines.specs.Cut.{cutting, next_number, line_start, too_long, line_end, values_at_end, keep_byte, at_start, feeding, finishing};
@@ -7,7 +9,7 @@ use model::Reading;
 
 // Where the cutting stands: what the lines so far left of the reading, the number of the line that is being cut, how many of its bytes are kept at the
 // start of the lent space, and whether it has more than those.
-#[derive(Drop)]
+#[derive(Clone, Copy)]
 pub struct Cut {
     pub reading: Reading,
     number: u32,
@@ -17,7 +19,7 @@ pub struct Cut {
 
 // What a call answers: the state after the bytes that it used, and the refusal and the number of the line that stopped it, or 0 and 0. Refusal 24 is a
 // line that is longer than the space.
-#[derive(Drop)]
+#[derive(Clone, Copy)]
 pub struct Fed {
     pub cut: Cut,
     pub used: usize,
@@ -26,7 +28,7 @@ pub struct Fed {
 }
 
 // The end of a line: its refusal, or 0, and the state before the next one.
-#[derive(Drop)]
+#[derive(Clone, Copy)]
 struct Ended {
     refusal: u32,
     cut: Cut,

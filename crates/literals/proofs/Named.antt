@@ -5,8 +5,6 @@ use mathlib.Core.Bool.{Bool, true, false, cond, ◌&&◌, ◌||◌}
 use mathlib.Core.List.{List, [], ◌∷◌, ◌++◌}
 use native.Mathlib.Omega.{arith}
 use borrow.Author.Tests.{eq-eqb, ne_eqb, ltb-true, ltb-false}
-use denote.Enum.Declared.{tag_of}
-use types.Run.{OneOf, miss}
 use Rattle.model.proofs.Solver.{word-named}
 use lib.Bits.{bit_or}
 use lib.Dec.{ltb, eqb}
@@ -23,7 +21,6 @@ use Rattle.model.proofs.Words.{has-zero}
 use Rattle.model.proofs.Flags.{same_test, flag-set}
 use Rattle.literals.specs.declared.Place.{Place}
 use Rattle.literals.specs.declared.Place.TheVariants.{Free, Above, Taken}
-use Rattle.literals.specs.contracts.Place.{the_type as place-type}
 use Rattle.line_form.proofs.Words.{k-le, word_size, is_last, is-more, is_some, first-last, first_more, first_some}
 use Rattle.line_form.proofs.Forms.{is_names}
 use Rattle.line_form.specs.Form.{word_length}
@@ -122,8 +119,8 @@ is_free Above = false
 is_free Taken = false
 
 -- the else of `let Place::Free(i) = .. else`
-pub not_free : (x : Place) → OneOf (1 ∷ 2 ∷ []) (tag_of place-type x) → is_free x ≡ false
-not_free (Free i) k = absurd (miss (1 ∷ 2 ∷ []) 0 tt k)
+pub not_free : (x : Place) → ((v : _) → x ≡ Free v → ⊥) → is_free x ≡ false
+not_free (Free i) k = absurd (k i refl)
 not_free Above k = refl
 not_free Taken k = refl
 

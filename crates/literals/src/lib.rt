@@ -1,4 +1,6 @@
 // The literals of a `v` line: judged one by one, and written where none is refused.
+#![tactic(auto)]
+
 ghost use Rattle.std.specs.Prelude.{◌≡◌, [], ◌≤◌, length, take};
 ghost use Rattle.model.specs.Assignment.{words_of, is_said, variable, value_for, with_values};
 ghost use Rattle.literals.specs.Line.{named, names?, Noted, noted_with, place_of, new_place, place_refusal, literal_refusal, PlacesBelow, put_back, words_refusal, taken_by};
@@ -6,7 +8,7 @@ ghost use Rattle.literals.specs.Line.{named, names?, Noted, noted_with, place_of
 use model::{Literal, Word};
 
 // The place of a variable's value: where it is free, or above the values' length, or holding a value already.
-#[derive(Drop)]
+#[derive(Clone, Copy)]
 enum Place {
     Free(usize),
     Above,

@@ -1,4 +1,6 @@
 // The formula's clauses are stored, as the block writer wrote them: its own text is read back word by word.
+#![tactic(auto)]
+
 ghost use Rattle.std.specs.Prelude.{◌≡◌, ◌≤◌, Bool, List, length};
 ghost use Rattle.model.specs.declared.Literal.{Literal};
 ghost use Rattle.refutation.specs.Sound.{Holds};
@@ -8,7 +10,7 @@ use model::Digits;
 use refutation::State;
 
 // What a word of the listing is: a literal as a word of the store, or a clause's closing 0.
-#[derive(Drop)]
+#[derive(Clone, Copy)]
 enum Piece {
     Wrong,
     End,
@@ -16,7 +18,7 @@ enum Piece {
 }
 
 // What is loaded, and the number of the next clause.
-#[derive(Drop)]
+#[derive(Clone, Copy)]
 pub struct Loaded {
     pub state: State,
     pub id: u32,

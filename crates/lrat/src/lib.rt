@@ -1,11 +1,13 @@
 // A certificate's lines, read in pieces of any size: `ID LITERAL .. 0 HINT .. 0` and `ID d ID .. 0`. Each number is a step of the refutation.
+#![tactic(auto)]
+
 ghost use Rattle.std.specs.Prelude.{◌≡◌, ℕ, ◌<◌, ◌≤◌, Bool, List, length};
 ghost use Rattle.refutation.specs.Sound.{Holds, Keeps};
 ghost use Rattle.lrat.specs.First.{first_reader};
 
 use refutation::State;
 
-#[derive(Drop)]
+#[derive(Clone, Copy)]
 pub struct Reader {
     pub state: State,
     // the line that is read, from 1 on
@@ -253,7 +255,7 @@ fn mark(r: Reader, b: u8, store: &mut [u32], index: &mut [u32], marks: &mut [u32
 // ---- pieces
 
 // A number and the place after its digits.
-#[derive(Drop)]
+#[derive(Clone, Copy)]
 struct DigitsRead {
     value: u32,
     next: usize,
@@ -290,7 +292,7 @@ fn appended(v: u32, b: u8) -> u32
 }
 
 // The reader after a part of the text, and the place after that part.
-#[derive(Drop)]
+#[derive(Clone, Copy)]
 struct Progress {
     reader: Reader,
     next: usize,

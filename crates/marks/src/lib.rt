@@ -1,4 +1,6 @@
 // Marks, a bit each: the next one, one more, one less, and the marks of a row of an index.
+#![tactic(auto)]
+
 ghost use Rattle.std.specs.Prelude.{◌≡◌, length};
 ghost use Rattle.marks.specs.Marks.{next_mark, with_mark, without_mark, AddsRow};
 

@@ -285,6 +285,7 @@ take_places d l k h = from l k 0 (λ i. get_or l i d) h (λ i. ap (λ (j : ℕ).
 
 -- a permutation has the same elements
 pub perm-mem {ℓ} : {A : Type ℓ} {l m : List A} {a : A} → Permᴰ l m → Memᴰ a l → Memᴰ a m
+perm-mem Permᴰ.nil h = elim h [ ]
 perm-mem (Permᴰ.cons e p) (Memᴰ.head q) = Memᴰ.head (q ∙ e)
 perm-mem (Permᴰ.cons e p) (Memᴰ.tail h) = Memᴰ.tail (perm-mem p h)
 perm-mem (Permᴰ.swap e f) (Memᴰ.head q) = Memᴰ.tail (Memᴰ.head (q ∙ e))

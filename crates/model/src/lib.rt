@@ -1,5 +1,7 @@
 // The model of a sheet: its types and its limits, and what each entry answers.
 // Everything above is built on this crate: its specs/ hold every definition of document 01.
+#![tactic(auto)]
+
 ghost use Rattle.std.specs.Prelude.{◌≡◌, ◌≤◌, min, cond, T, leb, length};
 ghost use Rattle.std.proofs.Math.Option.{none};
 ghost use Rattle.model.specs.Lists.{every};
@@ -9,14 +11,14 @@ ghost use Rattle.model.specs.Sheet.{digits_after, short_number, digits_value};
 ghost use Rattle.model.specs.Model.{zero_model, constraint_sized};
 
 // "F" and "-F" of document 01: of a member of a constraint, of a group, of a variable, or of an output by its index.
-#[derive(Drop)]
+#[derive(Clone, Copy)]
 pub enum Literal {
     Pos(u32),
     Neg(u32),
 }
 
 // A literal of which some are known before the solver runs.
-#[derive(Drop)]
+#[derive(Clone, Copy)]
 pub enum Term {
     Holds,
     Fails,
@@ -24,7 +26,7 @@ pub enum Term {
 }
 
 // A clause of a totalizer's node as document 001 prints it: a literal of child C, of child D and of the node N, each by its output's index.
-#[derive(Drop)]
+#[derive(Clone, Copy)]
 pub struct Printed {
     pub c: Literal,
     pub d: Literal,
@@ -32,14 +34,14 @@ pub struct Printed {
 }
 
 // Both clauses of a p and q.
-#[derive(Drop)]
+#[derive(Clone, Copy)]
 pub struct Formed {
     pub up: Printed,
     pub down: Printed,
 }
 
 // A node: child C has a outputs, numbered from c on, child D has b from d on, and the node N a + b from n on.
-#[derive(Drop)]
+#[derive(Clone, Copy)]
 pub struct Node {
     pub c: u32,
     pub a: u32,
@@ -49,7 +51,7 @@ pub struct Node {
 }
 
 // Source 001's group record. Entrant e is bit e - 1 of a word.
-#[derive(Drop)]
+#[derive(Clone, Copy)]
 pub struct Group {
     pub fixed: u64,
     pub possible: u64,
@@ -58,7 +60,7 @@ pub struct Group {
 }
 
 // A constraint line: its code, k where the code is 6, and the numbers of its groups in the sheet's order.
-#[derive(Drop)]
+#[derive(Clone, Copy)]
 pub struct Constraint {
     pub code: u32,
     pub count: u32,
@@ -66,7 +68,7 @@ pub struct Constraint {
 }
 
 // A sheet: n entrants, s groups, c constraints. Entries past s, past c and past a constraint's groups are ignored.
-#[derive(Drop)]
+#[derive(Clone, Copy)]
 pub struct Model {
     pub n: u32,
     pub s: u32,
@@ -76,14 +78,14 @@ pub struct Model {
 }
 
 // What digits stand for: those of a field of a sheet, or of a literal of a solver's line without its sign.
-#[derive(Drop)]
+#[derive(Clone, Copy)]
 pub enum Digits {
     Number(u32),
     Bad,
 }
 
 // What stands in a field of a sheet.
-#[derive(Drop)]
+#[derive(Clone, Copy)]
 pub enum Field {
     Number(u32),
     Blank,
@@ -91,7 +93,7 @@ pub enum Field {
 }
 
 // The sheet reader's answer: 0, 0 and the model; or a refusal, its line and the zero model.
-#[derive(Drop)]
+#[derive(Clone, Copy)]
 pub struct SheetRead {
     pub refusal: u32,
     pub line: u32,
@@ -99,7 +101,7 @@ pub struct SheetRead {
 }
 
 // The answer of propagation: 0, the passes made and the settled model; or a refusal, 0 and the model as it came.
-#[derive(Drop)]
+#[derive(Clone, Copy)]
 pub struct Propagated {
     pub refusal: u32,
     pub passes: u32,
@@ -107,14 +109,14 @@ pub struct Propagated {
 }
 
 // The block writer's answer: the length of the block's text, or a refusal.
-#[derive(Drop)]
+#[derive(Clone, Copy)]
 pub enum Written {
     Bytes(usize),
     Refused(u32),
 }
 
 // A word of a `v` line: a literal, the closing 0, or neither.
-#[derive(Drop)]
+#[derive(Clone, Copy)]
 pub enum Word {
     Names(Literal),
     Closing,
@@ -122,34 +124,34 @@ pub enum Word {
 }
 
 // The reading state of document 01: whether a closing 0 was read.
-#[derive(Drop)]
+#[derive(Clone, Copy)]
 pub struct Reading {
     pub closed: bool,
 }
 
 // The answer to a solver line: 0 and the next reading, or a refusal and the reading as it came.
-#[derive(Drop)]
+#[derive(Clone, Copy)]
 pub struct LineRead {
     pub refusal: u32,
     pub reading: Reading,
 }
 
 // The closing call's answer: 0 and a word for each group, or a refusal and zeros.
-#[derive(Drop)]
+#[derive(Clone, Copy)]
 pub struct Closed {
     pub refusal: u32,
     pub groups: [u64; Model::GROUPS],
 }
 
 // Combining's answer: 0 and the combined model, or a refusal and the zero model.
-#[derive(Drop)]
+#[derive(Clone, Copy)]
 pub struct Combined {
     pub refusal: u32,
     pub model: Model,
 }
 
 // The limits in one value, for the law that the constants below are the definitions' numbers.
-#[derive(Drop)]
+#[derive(Clone, Copy)]
 pub struct Limits {
     pub word: u32,
     pub entrants: u32,

@@ -1,5 +1,7 @@
 // Which number each variable gets: the open entrants, group by group, then the totalizers' outputs, then the X of code 7, line by line. Read by the
 // block writer, closing and filling.
+#![tactic(auto)]
+
 ghost use Rattle.std.specs.Prelude.{◌≡◌, cond, ◌+◌, ◌*◌, ◌-◌, ◌≤◌, leb, take};
 ghost use Rattle.model.specs.Lists.{total};
 ghost use Rattle.model.specs.Limits.{limits};
@@ -31,7 +33,7 @@ fn less(a: u32, b: u32) -> u32
 }
 
 // m, L and U of a group, and whether it has a totalizer.
-#[derive(Drop)]
+#[derive(Clone, Copy)]
 pub struct Totalizer {
     pub size: u32,
     pub low: u32,
@@ -59,7 +61,7 @@ pub fn totalizer_of(g: Group) -> Totalizer
 // ---- its outputs
 
 // How many outputs a tree has, and one of a leaf more.
-#[derive(Drop)]
+#[derive(Clone, Copy)]
 struct Outputs {
     own: u32,
     more: u32,
@@ -135,7 +137,7 @@ fn outputs_where(counts: bool, g: Group) -> u32
 }
 
 // A number for each group, and the next free one.
-#[derive(Drop)]
+#[derive(Clone, Copy)]
 struct Numbered {
     first: [u32; Model::GROUPS],
     next: u32,
@@ -187,7 +189,7 @@ fn differing_where(counts: bool, c: Constraint, f: Group, g: Group) -> u32
 }
 
 // A number for each constraint, and the next free one.
-#[derive(Drop)]
+#[derive(Clone, Copy)]
 struct Differences {
     first: [u32; Model::CONSTRAINTS],
     next: u32,
@@ -224,7 +226,7 @@ fn number_differences(
 }
 
 // The first variable and the first output of each group, the first X of each constraint, and V.
-#[derive(Drop)]
+#[derive(Clone, Copy)]
 pub struct Numbering {
     pub first: [u32; Model::GROUPS],
     pub outputs: [u32; Model::GROUPS],

@@ -1,4 +1,6 @@
 // Propagation, which document 01 calls settling: passes of the group rule and the constraint rule until one changes nothing.
+#![tactic(auto)]
+
 mod steps;
 
 ghost use Rattle.std.specs.Prelude.{◌≡◌, ◌+◌, ◌*◌, ◌≤◌, T, take};
@@ -17,7 +19,7 @@ use table::Table;
 // ---- a pass
 
 // The table after a pass, whether it is as before, and whether it is tenable.
-#[derive(Drop)]
+#[derive(Clone, Copy)]
 struct Pass {
     table: Table,
     same: bool,
@@ -92,7 +94,7 @@ fn is_tenable(t: Table, constraints: [Constraint; Model::CONSTRAINTS], s: usize,
 // ---- passes
 
 // The passes made, the last included, and the table; 0 passes where the fuel did not do, or the table is not consistent, which is looked at after 2, 4, 8, .. passes.
-#[derive(Drop)]
+#[derive(Clone, Copy)]
 struct Run {
     passes: u32,
     table: Table,

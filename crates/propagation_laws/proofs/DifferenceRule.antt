@@ -25,6 +25,7 @@ use Rattle.propagation_laws.proofs.Fixpoint.{run-fixed}
 use Rattle.propagation_laws.proofs.GroupRule.{group-eq, table_frame, group-narrow}
 use Rattle.propagation_laws.proofs.ConstraintRule.{literal_rule_lem}
 use Rattle.propagation_laws.proofs.Locality.{place_other}
+use Rattle.propagation_laws.proofs.NothingElse.{SettledIn, NothingElse}
 
 not-one : (b : ℕ) → b ≤ 1 → (b ≡ 1 → ⊥) → b ≡ 0
 not-one zero l f = refl
@@ -153,29 +154,6 @@ pub record Opposite (e : ℕ) (f g u v : Group) : Type 0 where
   pub barred-first : bit e f.possible ≡ 0 → bit e v.fixed ≡ 1
   pub fixed-second : bit e g.fixed ≡ 1 → bit e u.possible ≡ 0
   pub barred-second : bit e g.possible ≡ 0 → bit e u.fixed ≡ 1
-
--- e is settled in a group: fixed, or not possible
-abbrev pub SettledIn : ℕ → Group → Type 0
-SettledIn e r = bit e r.possible ≤ bit e r.fixed
-
--- nothing else changes: t before, u after, w the one left, f and g the numbers of the two groups
-pub record NothingElse (w f g : ℕ) (t u : List Group) : Type 0 where
-  -- other groups
-  pub groups : (k : ℕ) → (k - 1 ≡ f - 1 → ⊥) → (k - 1 ≡ g - 1 → ⊥) → group_at u k ≡ group_at t k
-  pub size : length u ≡ length t
-  -- limits
-  pub low : (k : ℕ) → (group_at u k).low ≡ (group_at t k).low
-  pub high : (k : ℕ) → (group_at u k).high ≡ (group_at t k).high
-  -- other entrants
-  pub fixed : (e k : ℕ) → bit e w ≡ 0 → bit e (group_at u k).fixed ≡ bit e (group_at t k).fixed
-  pub possible : (e k : ℕ) → bit e w ≡ 0 → bit e (group_at u k).possible ≡ bit e (group_at t k).possible
-  -- nobody is fixed but where he is barred in the other group, or barred but where he is fixed in the other
-  pub fixed-first : (e : ℕ) → bit e (group_at t g).possible ≡ 1 → bit e (group_at u f).fixed ≡ bit e (group_at t f).fixed
-  pub barred-first : (e : ℕ) → bit e (group_at t g).fixed ≡ 0 → bit e (group_at u f).possible ≡ bit e (group_at t f).possible
-  pub fixed-second : (e : ℕ) → bit e (group_at t f).possible ≡ 1 → bit e (group_at u g).fixed ≡ bit e (group_at t g).fixed
-  pub barred-second : (e : ℕ) → bit e (group_at t f).fixed ≡ 0 → bit e (group_at u g).possible ≡ bit e (group_at t g).possible
-  -- an entrant settled in both
-  pub both : ((e : ℕ) → bit e w ≡ 1 → SettledIn e (group_at t f) × SettledIn e (group_at t g)) → u ≡ t
 
 -- the one left is one of those who are not settled alike
 lone-bit : (e x : ℕ) → bit e (lone x) ≤ bit e x

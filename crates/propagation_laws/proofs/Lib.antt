@@ -4,6 +4,7 @@ pub mod GroupRule
 pub mod LimitRules
 pub mod Unlike
 pub mod ConstraintRule
+pub mod NothingElse
 pub mod DifferenceRule
 pub mod Meaning
 pub mod Ranges

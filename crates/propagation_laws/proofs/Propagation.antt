@@ -18,7 +18,7 @@ use Rattle.model.specs.Lists.{every, pairwise, total}
 use Rattle.model.specs.Model.{table_of, constraints_of, with_table, members_sized, group_in_range, constraint_in_range, in_range}
 use Rattle.model.specs.Difference.{may_differ}
 use Rattle.model.specs.Propagate.{rules, pass, group_consistent, consistent, tenable, same_table, Outcome, contradiction, fixpoint, outcome, refused_propagation, propagated_as, propagated, is_fixpoint}
-use Rattle.model.specs.Demand.{group_within, within, unchanged, is_candidate}
+use Rattle.model.specs.Demand.{group_within, within, is_candidate}
 use Rattle.model.specs.Solution.{constraint_true, allowed, is_solution}
 use Rattle.model.proofs.Lists.{T_true, T-ext, and_left, and_right, and_both, every-all, all-every, all-at, all-mem, all-perm, perm-mem, pairwise-length, front-take, front-drop}
 use Rattle.model.proofs.Words.{size-le, sub-le}

@@ -1,4 +1,6 @@
 // The range check of a model: refusal 20. The reader asks the same of a constraint line.
+#![tactic(auto)]
+
 ghost use Rattle.std.specs.Prelude.{◌≡◌, ◌≤◌, ◌&&◌, eqb, leb, length, take, drop};
 ghost use Rattle.model.specs.Lists.{every, any, distinct, between};
 ghost use Rattle.model.specs.Limits.{limits, groups_for};

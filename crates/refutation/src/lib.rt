@@ -1,9 +1,11 @@
 // A refutation, step by step: clauses in a lent store, a new one only where stored ones imply it by the hints given for it.
+#![tactic(auto)]
+
 ghost use Rattle.std.specs.Prelude.{◌≡◌, ℕ, ◌+◌, ◌-◌, ◌≤◌, Bool, false, T, List, length, replicate};
 ghost use Rattle.refutation.specs.Sound.{flipped, some_true, stored_true, begun_true, Falsified, Says, Holds, Keeps, Appended, Begun};
 ghost use Rattle.refutation.specs.Steps.{first_state, refused_for, after_put, store_after_put, marks_after_put, after_commit, store_after_commit, index_after_commit, given, places_at, after_forget, index_after_forget};
 
-#[derive(Drop)]
+#[derive(Clone, Copy)]
 pub struct State {
     // why the certificate is refused; 0 where it is not
     pub refusal: u32,
@@ -40,7 +42,7 @@ impl State {
 }
 
 // What a stored clause says under the marks.
-#[derive(Drop)]
+#[derive(Clone, Copy)]
 enum Found {
     Nothing,
     Conflict,

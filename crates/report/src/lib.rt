@@ -1,4 +1,6 @@
 // What the programs say, each message by value: refusals with their meaning in words for the counter, and counts.
+#![tactic(auto)]
+
 ghost use Rattle.std.specs.Prelude.{◌≡◌, []};
 ghost use Rattle.model.specs.Text.{decimal};
 ghost use Rattle.report.specs.Messages.{meanings, together, IsPart, reasons, meaning_text, refused_text, refused_at_text, refused_line_text, clash_text, number_text, counts_text, passes_text, Counted, closed_text, ending_text, block_line, changed_text, reason_text, not_certified_text, no_draw_text, fault_start, fault_end, wrong_groups_text, notice_text, message, added, added_unsaid, added_result, added_tried};
@@ -7,7 +9,7 @@ ghost use Rattle.report.specs.Messages.{meanings, together, IsPart, reasons, mea
 pub const MOST: usize = 160;
 
 // The first `length` bytes are the text; the others are zero.
-#[derive(Drop)]
+#[derive(Clone, Copy)]
 pub struct Message {
     pub length: usize,
     pub bytes: [u8; MOST],
@@ -40,7 +42,7 @@ pub fn add_number(m: Message, v: u32) -> Message
 }
 
 // Where a part of a text starts, and where it ends.
-#[derive(Drop)]
+#[derive(Clone, Copy)]
 struct Part(usize, usize);
 
 // Where the meaning of a refusal stands in the text of all of them.
@@ -233,7 +235,7 @@ pub fn ending(closed: bool, k: u32) -> Message
 }
 
 // What a buffer of `room` bytes gave: a refusal, or 0 and the text's length.
-#[derive(Drop)]
+#[derive(Clone, Copy)]
 pub struct Tried {
     pub room: u32,
     pub refusal: u32,
@@ -406,7 +408,7 @@ pub fn wrong_groups(fault: u32, line: u32, number: u32) -> Message
 }
 
 // What a program says besides: what it could not write, the name of an argument that is missing, how it is called.
-#[derive(Drop)]
+#[derive(Clone, Copy)]
 pub enum Notice {
     OutputNotWritten,
     ListingNotWritten,

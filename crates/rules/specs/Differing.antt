@@ -5,7 +5,8 @@ use Rattle.model.specs.declared.Constraint.{Constraint}
 use Rattle.model.specs.Words.{bit}
 use Rattle.model.specs.Model.{group_at}
 use Rattle.model.specs.Difference.{unlike_in, lone}
-use Rattle.propagation_laws.proofs.DifferenceRule.{Opposite, NothingElse}
+use Rattle.propagation_laws.proofs.NothingElse.{NothingElse}
+use Rattle.propagation_laws.proofs.DifferenceRule.{Opposite}
 
 -- the entrant may be in the group, and is not fixed there
 abbrev pub OpenIn : ℕ → Group → Type 0

@@ -1,4 +1,6 @@
 // The rules of a pass, each on the table as four arrays: the group rule at a place, and the constraint rule for a word of entrants. Total: a place that is not there stays.
+#![tactic(auto)]
+
 ghost use Rattle.std.specs.Prelude.{◌≡◌, map, ◌+◌};
 ghost use Rattle.model.specs.Lists.{range};
 ghost use Rattle.model.specs.Difference.{lone};

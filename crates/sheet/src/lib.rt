@@ -1,4 +1,6 @@
 // The sheet reader: a club's sheet, byte by byte, to a model. The first step of the chain.
+#![tactic(auto)]
+
 ghost use Rattle.std.specs.Prelude.{◌≡◌, ℕ, ◌≤◌, ◌<◌, ◌+◌, ◌/◌, ◌^◌, Bool, true, cond, ◌&&◌, List, T, leb, eqb, length};
 ghost use Rattle.model.specs.Lists.{every, range};
 ghost use Rattle.model.specs.Limits.{limits};

@@ -1,4 +1,6 @@
 // What is wrong with a sheet that the reader refused, and where.
+#![tactic(auto)]
+
 ghost use Rattle.std.specs.Prelude.{◌≡◌, not, ◌&&◌, ◌+◌, ◌-◌, ◌≤◌, min, eqb, length, drop};
 ghost use Rattle.model.specs.Limits.{limits};
 ghost use Rattle.model.specs.Sheet.{lines_of};

@@ -1,4 +1,6 @@
 // The sheet writer: a model's sheet in a buffer of the caller's, as the reader takes it. Refused as a block is: 20, then 24.
+#![tactic(auto)]
+
 ghost use Rattle.std.specs.Prelude.{◌≡◌, [], ◌∷◌, ◌+◌, ◌*◌, ◌≤◌, ◌<◌, T, length, take};
 ghost use Rattle.model.specs.Lists.{every, each, range};
 ghost use Rattle.model.specs.Limits.{limits};

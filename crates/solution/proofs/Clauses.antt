@@ -40,7 +40,7 @@ use Rattle.encoding_laws.proofs.Differences.{six-difference, is-difference, diff
 use Rattle.encoding_laws.proofs.Whole.{OpenLimits, limits_of_lem, counted-pos, uncounted, open_apart, open_lt, fixed-lt, member-true, constraint-entrants, constraint-says}
 use Rattle.constraint_clauses.specs.Holds.{clause_holds}
 use Rattle.constraint_clauses.proofs.Entrants.{clauses-are}
-use Rattle.solution.specs.Holds.{in_group, word_of, word_at, table_words, group_holds, group_holds_at, difference_holds, clauses_hold_of, constraint_holds, constraint_holds_at, clauses_hold}
+use Rattle.solution.specs.Holds.{in_group, word_of, word_at, table_words, group_holds, group_holds_at, word_of_difference, difference_holds, constraint_holds, constraint_holds_at, clauses_hold}
 
 -- ---- a group that is at its fixpoint
 
@@ -152,7 +152,7 @@ module _ (m : Model) (a : List Bool) (some : 1 ≤ m.s) where
 
   constraint-true : All (SettledAmong m.n) (table_of m) → (x : ℕ) (c : Constraint) → T (constraint_in_range m.s c) → T (constraint_sized c)
       → all_true a (constraint_clauses m.n (table_of m) x c) ≡ constraint_holds a (table_of m) (closed_groups m a) m.n x c
-  unfolding constraint_holds clauses_hold_of difference_holds
+  unfolding constraint_holds difference_holds word_of_difference
   constraint-true s x c t wide = go (entrant-or-seven c.code c.count (constraint-code m.s c t))
     where
       member_is : c.code ≡ 7 → (i : ℕ) → i < 2 → member_set (closed_groups m a) c i ≡ member_set (groups_by m a) c i
@@ -162,7 +162,7 @@ module _ (m : Model) (a : List Bool) (some : 1 ≤ m.s) where
 
       go : T (by_entrant c.code) ⊎ (c.code ≡ 7)
           → all_true a (constraint_clauses m.n (table_of m) x c)
-          ≡ cond (is_difference c) (difference_holds a (is_apart (table_of m) c) (differing (table_of m) c) (closed_groups m a) m.n x c)
+          ≡ cond (is_difference c) (difference_holds a (table_of m) (closed_groups m a) m.n x c)
           (every (clause_holds (closed_groups m a) c.groups (full m.n)) (member_clauses c.code c.count))
       go (inl six) = rw (six-difference (table_of m) c six) (six-true x c t six)
       go (inr seven) =

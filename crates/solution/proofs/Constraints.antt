@@ -24,7 +24,7 @@ use Rattle.model.proofs.Words.{bit-and, bit-or, bit_ext}
 use Rattle.model.proofs.Lists.{get_or-map-range, get_or-other}
 use Rattle.constraint_clauses.specs.Holds.{clause_holds}
 use Rattle.numbering.specs.Numbering.{differences_from}
-use Rattle.solution.specs.Holds.{word_of, difference_holds, clauses_hold_of, constraint_holds, constraint_holds_at}
+use Rattle.solution.specs.Holds.{word_of, word_of_difference, difference_holds, constraint_holds, difference_holds_of, clauses_hold_of, constraint_holds_at}
 
 -- ---- code 7
 
@@ -37,13 +37,13 @@ one_xor f g =
     omega (arith, xor_add_and f g, or_add_and f g, xor_add_and o (bit_and o b), ap (bit_and o) q, q)
 
 module _ (a : List Bool) (p : Bool) (o : ℕ) (d : List ℕ) (n x : ℕ) (c : Constraint) where
-  pub holds-apart : p ≡ true → true ≡ difference_holds a p o d n x c
-  unfolding difference_holds
+  pub holds-apart : p ≡ true → true ≡ difference_holds_of a p o d n x c
+  unfolding difference_holds_of
   holds-apart h = rw h
 
   module _ (h : p ≡ false) (w : ℕ) (q : w ≡ word_of n a record { fixed = 0; possible = o; low = 0; high = 0 } x) where
-    pub holds-none : w ≡ 0 → false ≡ difference_holds a p o d n x c
-    unfolding difference_holds
+    pub holds-none : w ≡ 0 → false ≡ difference_holds_of a p o d n x c
+    unfolding difference_holds_of
     holds-none z = rw (h, ← q, eq-eqb w 0 z) (sym (and-false (eqb w (one_of (set_of d (get_or c.groups 0 0)) (set_of d (get_or c.groups 1 0))))))
       where
         and-false : (b : Bool) → (b && false) ≡ false
@@ -51,8 +51,8 @@ module _ (a : List Bool) (p : Bool) (o : ℕ) (d : List ℕ) (n x : ℕ) (c : Co
         and-false false = refl
 
     pub holds-some : (w ≡ 0 → ⊥) → (f g : ℕ) → f ≡ set_of d (get_or c.groups 0 0) → g ≡ set_of d (get_or c.groups 1 0)
-        → eqb w (bit_xor f g) ≡ difference_holds a p o d n x c
-    unfolding difference_holds
+        → eqb w (bit_xor f g) ≡ difference_holds_of a p o d n x c
+    unfolding difference_holds_of
     holds-some z f g u v =
         ap (eqb w) (one_xor f g ∙ ap₂ one_of u v)
         ∙ rw (h, ← q, ne_eqb w 0 z) (sym (and-true (eqb w (one_of (set_of d (get_or c.groups 0 0)) (set_of d (get_or c.groups 1 0))))))
@@ -63,10 +63,10 @@ module _ (a : List Bool) (p : Bool) (o : ℕ) (d : List ℕ) (n x : ℕ) (c : Co
 
   -- ---- every code
 
-  pub seven-holds : c.code ≡ 7 → (b : Bool) → b ≡ difference_holds a p o d n x c → b ≡ clauses_hold_of a p o d n x c
+  pub seven-holds : c.code ≡ 7 → (b : Bool) → b ≡ difference_holds_of a p o d n x c → b ≡ clauses_hold_of a p o d n x c
   unfolding clauses_hold_of is_difference
   seven-holds h b e =
-      e ∙ sym (ap (λ (y : Bool). cond y (difference_holds a p o d n x c) (every (clause_holds d c.groups (full n)) (member_clauses c.code c.count))) (eq-eqb c.code 7 h))
+      e ∙ sym (ap (λ (y : Bool). cond y (difference_holds_of a p o d n x c) (every (clause_holds d c.groups (full n)) (member_clauses c.code c.count))) (eq-eqb c.code 7 h))
 
   pub six-holds : (c.code ≡ 7 → ⊥) → (w : ℕ) → w ≡ full n → (b : Bool) → b ≡ every (clause_holds d c.groups w) (member_clauses c.code c.count)
       → b ≡ clauses_hold_of a p o d n x c
@@ -74,7 +74,7 @@ module _ (a : List Bool) (p : Bool) (o : ℕ) (d : List ℕ) (n x : ℕ) (c : Co
   six-holds h w q b e = e ∙ rw (q, ne_eqb c.code 7 h)
 
   pub table-holds : (t : List Group) → p ≡ is_apart t c → o ≡ differing t c → (b : Bool) → b ≡ clauses_hold_of a p o d n x c → b ≡ constraint_holds a t d n x c
-  unfolding constraint_holds
+  unfolding constraint_holds difference_holds word_of_difference clauses_hold_of difference_holds_of
   table-holds t u v b e = e ∙ ap₂ (λ (q : Bool) (w : ℕ). clauses_hold_of a q w d n x c) u v
 
 -- ---- a place of the constraints

@@ -60,20 +60,30 @@ group_holds_at a t d g = group_holds a (group_at t g) (set_of d g) (first_variab
 
 -- ---- a constraint's clauses, for all entrants at once
 
--- code 7, where p is whether an entrant differs already and o who has an X, numbered from x on: there are no clauses where one differs already; else the X
--- that are true, the word of a group in which nobody is fixed, are those of the entrants in just one set, and there is one
-unfoldable pub difference_holds : List Bool → Bool → ℕ → List ℕ → ℕ → ℕ → Constraint → Bool
-difference_holds a p o d n x c =
+-- the word of the X that are true, numbered from x on: that of a group in which nobody is fixed
+unfoldable pub word_of_difference : ℕ → List Bool → List Group → Constraint → ℕ → ℕ
+word_of_difference n a t c x = word_of n a record { fixed = 0; possible = differing t c; low = 0; high = 0 } x
+
+-- code 7: there are no clauses where an entrant differs already; else the X that are true are those of the entrants in just one set, and there is one
+unfoldable pub difference_holds : List Bool → List Group → List ℕ → ℕ → ℕ → Constraint → Bool
+difference_holds a t d n x c =
+    let w = word_of_difference n a t c x in
+    is_apart t c || (eqb w (one_of (member_set d c 0) (member_set d c 1)) && not (eqb w 0))
+
+-- each clause of a constraint whose X are numbered from x on, where the words are d
+unfoldable pub constraint_holds : List Bool → List Group → List ℕ → ℕ → ℕ → Constraint → Bool
+constraint_holds a t d n x c =
+    cond (is_difference c) (difference_holds a t d n x c) (every (clause_holds d c.groups (full n)) (member_clauses c.code c.count))
+
+-- the same two without the table, where p is whether an entrant differs already and o who has an X
+unfoldable pub difference_holds_of : List Bool → Bool → ℕ → List ℕ → ℕ → ℕ → Constraint → Bool
+difference_holds_of a p o d n x c =
     let w = word_of n a record { fixed = 0; possible = o; low = 0; high = 0 } x in
     p || (eqb w (one_of (member_set d c 0) (member_set d c 1)) && not (eqb w 0))
 
--- each clause of a constraint, where the words are d
 unfoldable pub clauses_hold_of : List Bool → Bool → ℕ → List ℕ → ℕ → ℕ → Constraint → Bool
 clauses_hold_of a p o d n x c =
-    cond (is_difference c) (difference_holds a p o d n x c) (every (clause_holds d c.groups (full n)) (member_clauses c.code c.count))
-
-unfoldable pub constraint_holds : List Bool → List Group → List ℕ → ℕ → ℕ → Constraint → Bool
-constraint_holds a t d n x c = clauses_hold_of a (is_apart t c) (differing t c) d n x c
+    cond (is_difference c) (difference_holds_of a p o d n x c) (every (clause_holds d c.groups (full n)) (member_clauses c.code c.count))
 
 -- the constraint at place i
 unfoldable pub constraint_holds_at : List Bool → List Group → List Constraint → List ℕ → ℕ → ℕ → Bool

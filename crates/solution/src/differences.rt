@@ -2,7 +2,7 @@
 ghost use Rattle.std.specs.Prelude.{◌≡◌, ◌≤◌, ◌<◌};
 ghost use Rattle.model.specs.Limits.{limits};
 ghost use Rattle.model.specs.Close.{assignment_of};
-ghost use Rattle.solution.specs.Holds.{difference_holds};
+ghost use Rattle.solution.specs.Holds.{difference_holds_of};
 
 use crate::group_clauses::word_of;
 use model::{Constraint, Group, Model};
@@ -19,7 +19,7 @@ pub(crate) fn difference_holds(
     x: usize,
 ) -> bool
     requires { (n ≤ limits.entrants) × (x < 10000000000) }
-    ensures { result ≡ difference_holds (assignment_of values.now) apart free words.now n x l }
+    ensures { result ≡ difference_holds_of (assignment_of values.now) apart free words.now n x l }
 {
     if apart {
         return true;

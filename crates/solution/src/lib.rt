@@ -1,5 +1,7 @@
 // Closing: whether the values satisfy every clause, and the groups that they say. The last step of the chain.
 // A totalizer's outputs are compared with the count of its leaves, and a constraint's clauses are judged for all entrants at once.
+#![tactic(auto)]
+
 mod differences;
 mod group_clauses;
 

@@ -1,4 +1,6 @@
 // The table of groups 1 to s while it is settled: four arrays, unpacked from a model's groups once, and packed once at the end.
+#![tactic(auto)]
+
 ghost use Rattle.std.specs.Prelude.{◌≡◌, ◌++◌, ◌≤◌, length, take, drop};
 ghost use Rattle.model.specs.Limits.{limits};
 ghost use Rattle.model.specs.Propagate.{consistent, same_table, fixpoint, propagated_as};
@@ -7,7 +9,7 @@ ghost use Rattle.table.specs.Table.{groups_in, arrays_of, Whole, places_of};
 use model::{Group, Model, Propagated};
 
 // The table of groups: group g stands at place g - 1 of each array.
-#[derive(Drop)]
+#[derive(Clone, Copy)]
 pub struct Table {
     pub fixed: [u64; Model::GROUPS],
     pub possible: [u64; Model::GROUPS],

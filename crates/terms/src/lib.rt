@@ -1,4 +1,6 @@
 // The terms of a constraint's clauses for one entrant, and each clause's text. Read by the counts and by the block writer.
+#![tactic(auto)]
+
 ghost use Rattle.std.specs.Prelude.{◌≡◌, ◌+◌, ◌<◌, ◌≤◌, [], ◌∷◌, ◌++◌, length, slice_index_or, slice_set};
 ghost use Rattle.model.specs.declared.Term.TheVariants.{Fails};
 ghost use Rattle.model.specs.Lists.{every, any, each, range};
@@ -27,7 +29,7 @@ pub fn opposite(t: Term) -> Term
 // ---- the members of a constraint
 
 // What a constraint asks of one of its groups: the words and the first variable.
-#[derive(Drop)]
+#[derive(Clone, Copy)]
 pub struct Member {
     pub fixed: u64,
     pub possible: u64,

@@ -95,10 +95,17 @@ module _ where
   filled-any (x ∷ y ∷ z ∷ []) h = refl
   filled-any (x ∷ y ∷ z ∷ w ∷ ts) h = absurd (omega arith)
 
+  -- what has no literals adds none
+  padded : (ts us : List Term) → literals us ≡ [] → literals (ts ++ us) ≡ literals ts
+  padded [] us h = h
+  padded (Holds ∷ ts) us h = padded ts us h
+  padded (Fails ∷ ts) us h = padded ts us h
+  padded (Open l ∷ ts) us h = ap (λ m. l ∷ m) (padded ts us h)
+
   filled-literals : (ts : List Term) → length ts ≤ 3 → literals (filled ts) ≡ literals ts
   filled-literals [] h = refl
-  filled-literals (x ∷ []) h = refl
-  filled-literals (x ∷ y ∷ []) h = refl
+  filled-literals (x ∷ []) h = padded (x ∷ []) (Fails ∷ Fails ∷ []) refl
+  filled-literals (x ∷ y ∷ []) h = padded (x ∷ y ∷ []) (Fails ∷ []) refl
   filled-literals (x ∷ y ∷ z ∷ []) h = refl
   filled-literals (x ∷ y ∷ z ∷ w ∷ ts) h = absurd (omega arith)
 

@@ -1,5 +1,7 @@
 // Numbers, terms, fields and clauses of three terms as text in a buffer of the caller's. Each public writer is total: where there is no room nothing changes, and the answer
 // is the place that it was given.
+#![tactic(auto)]
+
 ghost use Rattle.std.specs.Prelude.{◌≡◌, [], ◌∷◌, ◌++◌, ◌+◌, ◌≤◌, ◌<◌, leb, length, replicate};
 ghost use Rattle.model.specs.Lists.{any, each};
 ghost use Rattle.model.specs.Text.{decimal, literal_text, field_text};

@@ -1,4 +1,6 @@
 // A verdict on a certificate as the message that is printed: it begins with `no draw` for those verdicts only that imply that there is none.
+#![tactic(auto)]
+
 ghost use Rattle.std.specs.Prelude.{◌≡◌};
 ghost use Rattle.report.specs.Messages.{message, Counted};
 ghost use Rattle.certificate.specs.NoDraw.{is_no};

@@ -1,4 +1,6 @@
 // A model, and a set for each group, from words, as a caller outside hands them over: in range or not, so that they can be refused.
+#![tactic(auto)]
+
 ghost use Rattle.std.specs.Prelude.{◌≡◌, map, ◌≤◌, ◌<◌};
 ghost use Rattle.model.specs.Lists.{range};
 ghost use Rattle.model.specs.Limits.{limits};

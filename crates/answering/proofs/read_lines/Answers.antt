@@ -1,0 +1,27 @@
+use mathlib.Core.Path.{refl, ◌∙◌}
+use native.Mathlib.Omega.{arith}
+use Rattle.answering.proofs.Lines.{at-start, line-end, line-size, goes, all_read}
+use Rattle.answering.proofs.read_lines.Goals as goal
+
+pub loop-at-init : goal.loop-at-init
+loop-at-init c = (at-start _ _, refl)
+
+pub slice_bounds-read_line-end : goal.slice_bounds-read_line-end
+slice_bounds-read_line-end c = line-size c.loop-at.invariant.0 c.loop-at-test.true _ c.line_length-len.ensures
+
+pub overflow_add-at : goal.overflow_add-at
+overflow_add-at c = omega (arith, line-end c.loop-at.invariant.0 c.loop-at-test.true _ c.line_length-len.ensures)
+
+pub loop-at-smaller : goal.loop-at-smaller
+loop-at-smaller c = omega (arith, c.next_line-at.ensures, c.loop-at-test.true)
+
+pub loop-at-preserved : goal.loop-at-preserved
+loop-at-preserved c =
+    let here = c.loop-at.invariant in
+    let read = c.read_line-r in
+    (goes here.0 c.loop-at-test.true _ c.line_length-len.ensures _ read.ensures.value _ read.ensures.values_after c.next_line-at.ensures, read.auto.values ∙ here.1)
+
+pub returns : goal.returns
+returns c =
+    let both = all_read c.loop-at.invariant.0 c.loop-at-test.false in
+    record { value = both.0; values_after = both.1 }

@@ -1,0 +1,12 @@
+-- `first_distinct` tests the first k numbers. Invariant: the test of all is the test of those from i on. Assumes nothing.
+use Prim.Native.Nat.{◌≤◌, ◌-◌}
+use mathlib.Core.Path.{◌≡◌}
+use lib.ListN.{drop, take}
+use Rattle.model.specs.Lists.{distinct}
+use Rattle.range.proofs.first_distinct.Given as goal
+
+abbrev pub invariant-loop-i : goal.invariant-loop-i
+invariant-loop-i l = (l.i ≤ l.k) × (distinct (take l.k l.ids) ≡ distinct (drop l.i (take l.k l.ids)))
+
+abbrev pub decreases-loop-i : goal.decreases-loop-i
+decreases-loop-i l = l.k - l.i
