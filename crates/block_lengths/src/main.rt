@@ -1,7 +1,10 @@
 // Example K of document 01 on a sheet of standard input: each block of its listing in a buffer of the block's length, and in one a byte shorter.
+#![tactic(auto)]
+
 ghost use Rattle.std.specs.Prelude.{◌≡◌, ◌≤◌, length};
 ghost use Rattle.model.specs.Limits.{limits};
 
+use console::Streams;
 use model::{Model, Written};
 
 // What the buffer holds before a block is written.
@@ -24,7 +27,7 @@ fn is_kept(all: &[u8; Model::BLOCK_BYTES], from: usize) -> bool {
 }
 
 // What a buffer of some length gave: 0 and the text's length, or a refusal and 0; and whether the bytes past the text stayed as they were.
-#[derive(Drop)]
+#[derive(Clone, Copy)]
 struct Tried {
     refusal: u32,
     length: usize,
@@ -51,8 +54,8 @@ fn try_block(m: Model, b: u32, room: usize) -> Tried
     }
 }
 
-fn refuse(refusal: u32) {
-    console::print(report::number(refusal));
+fn refuse(to: Streams, refusal: u32) {
+    console::print(to, report::number(refusal));
 }
 
 fn told(room: usize, t: Tried) -> report::Tried
@@ -75,44 +78,51 @@ fn one_less(n: usize) -> usize
 }
 
 // The block's length, and what a buffer of that length and one a byte shorter give. An empty block has no shorter buffer.
-fn print_block(m: Model, b: u32) -> bool {
+fn print_block(to: Streams, m: Model, b: u32) -> bool {
     let any = try_block(m, b, Model::BLOCK_BYTES);
     let n = any.length;
     let exact = try_block(m, b, n);
     let less = one_less(n);
     let short = try_block(m, b, less);
-    if !console::print(report::block(b, n as u32, told(n, exact), told(less, short))) {
+    if !console::print(
+        to,
+        report::block(b, n as u32, told(n, exact), told(less, short)),
+    ) {
         return false;
     }
     if any.kept && exact.kept && short.kept {
         return true;
     }
-    console::print(report::changed(b))
+    console::print(to, report::changed(b))
 }
 
-fn print_blocks(m: Model) {
+fn print_blocks(to: Streams, m: Model) {
     let last = blocks::block_count(m);
     let mut b: u32 = 0;
     while b <= last {
-        if !print_block(m, b) {
+        if !print_block(to, m, b) {
             return;
         }
         b += 1;
     }
 }
 
-fn main() {
+fn main(rt: HostRuntime) {
+    let to = Streams {
+        out: rt.stdout(),
+        err: rt.stderr(),
+    };
     let mut space = console::sheet_room();
-    let n = console::read_sheet(&mut space);
+    let n = console::read_sheet(rt.stdin(), &mut space);
     let r = sheet::read_sheet(&space[..n]);
     if r.refusal != 0 {
-        refuse(r.refusal);
+        refuse(to, r.refusal);
         return;
     }
     let p = propagate::propagate(r.model);
     if p.refusal != 0 {
-        refuse(p.refusal);
+        refuse(to, p.refusal);
         return;
     }
-    print_blocks(p.model);
+    print_blocks(to, p.model);
 }

@@ -1,4 +1,6 @@
 // Whether a certificate shows that a sheet has no draw: the sheet is the file that argument 1 names, the certificate comes on standard input.
+#![tactic(auto)]
+
 ghost use Rattle.std.specs.Prelude.{◌≡◌, true, List, ℕ, ◌+◌, ◌*◌, length};
 ghost use Rattle.model.specs.Limits.{limits};
 ghost use Rattle.report.specs.Messages.{Counted};
@@ -6,9 +8,10 @@ ghost use Rattle.certificate.specs.NoDraw.{NoDraw, Stands};
 ghost use Rattle.verdict.specs.Verdict.{printed, says_no};
 
 use certificate::Standing;
-use libc::STDIN_FILENO;
+use console::Streams;
 use model::Model;
 use report::{Message, Notice};
+use std::io::Stdin;
 
 // Places for clauses, numbers of clauses, and a word for each literal of the largest listing: what 8 MB of stack hold.
 const STORE: usize = 1048576;
@@ -22,6 +25,7 @@ const TEXT: usize = 131072;
 
 // The whole certificate. A proved loop has to end: its turns are counted down from a number that no run uses up.
 fn read_certificate(
+    input: Stdin,
     s: Standing,
     store: &mut [u32],
     index: &mut [u32],
@@ -29,12 +33,11 @@ fn read_certificate(
 ) -> Standing
     ensures { (b : List ℕ) → Stands b s store.old index.old marks.old → Stands b result store.new index.new marks.new }
 {
-    let mut piece = io::large_buffer();
+    let mut piece = console::large_buffer();
     let mut t = s;
     let mut turns = u64::MAX;
     while turns > 0 {
-        let got = libc::read(STDIN_FILENO, &mut piece);
-        let n = io::count(got, &piece);
+        let n = console::read_piece(input, &mut piece);
         if n == 0 {
             break;
         }
@@ -47,6 +50,7 @@ fn read_certificate(
 
 // What is printed: where it begins with `no draw`, the sheet has none.
 fn answered(
+    input: Stdin,
     sheet: &[u8],
     text: &mut [u8],
     store: &mut [u32],
@@ -57,7 +61,7 @@ fn answered(
     ensures no_draw { says_no (printed result) ≡ true → NoDraw sheet.now }
 {
     let s = certificate::begin(sheet, text, store, index, marks);
-    let t = read_certificate(s, store, index, marks);
+    let t = read_certificate(input, s, store, index, marks);
     let v = certificate::finish(t);
     verdict::told(v)
 }
@@ -87,7 +91,7 @@ fn text_space() -> [u8; TEXT]
     [0; TEXT]
 }
 
-fn with_memory(sheet: &[u8]) -> Message
+fn with_memory(input: Stdin, sheet: &[u8]) -> Message
     ensures counted { Counted result }
     ensures no_draw { says_no (printed result) ≡ true → NoDraw sheet.now }
 {
@@ -95,15 +99,19 @@ fn with_memory(sheet: &[u8]) -> Message
     let mut store = store_space();
     let mut index = number_space();
     let mut marks = literal_space();
-    answered(sheet, &mut text, &mut store, &mut index, &mut marks)
+    answered(input, sheet, &mut text, &mut store, &mut index, &mut marks)
 }
 
-fn main() {
+fn main(rt: HostRuntime) {
+    let to = Streams {
+        out: rt.stdout(),
+        err: rt.stderr(),
+    };
     let mut space = console::sheet_room();
-    let opened = console::open_sheet(1, Notice::Sheet, &mut space);
+    let opened = console::open_sheet(&rt, to.err, 1, Notice::Sheet, &mut space);
     if !opened.good {
         return;
     }
     let n = opened.length;
-    console::print(with_memory(&space[..n]));
+    console::print(to, with_memory(rt.stdin(), &space[..n]));
 }

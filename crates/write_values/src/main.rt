@@ -1,10 +1,13 @@
 // Writes a draw as the assignment that a solver may start from: the sheet is the file that argument 1 names, the groups come on standard input.
+#![tactic(auto)]
+
 ghost use Rattle.std.specs.Prelude.{◌≡◌, ◌+◌, ◌*◌, length};
 ghost use Rattle.model.specs.Limits.{limits};
 
-use libc::STDIN_FILENO;
+use console::Streams;
 use model::{Model, Written};
 use report::Notice;
+use std::io::Stdin;
 
 // The most bytes of the groups' text. As it is printed it has less.
 const GROUPS_BYTES: usize = 65536;
@@ -20,28 +23,28 @@ fn room() -> [u8; TEXT_BYTES]
 }
 
 // The `v` lines.
-fn print_assignment(values: &[u8]) {
+fn print_assignment(to: Streams, values: &[u8]) {
     let mut text = room();
     let Written::Bytes(n) = answer::write_assignment(values, &mut text) else {
         return;
     };
-    console::write(&text[..n], Notice::OutputNotWritten);
+    console::write(to, &text[..n], Notice::OutputNotWritten);
 }
 
 // The settled model's assignment that reads back as the groups of the text.
-fn write_back(m: Model, text: &[u8], values: &mut [u8]) {
+fn write_back(to: Streams, m: Model, text: &[u8], values: &mut [u8]) {
     let r = group_lines::read_groups(text, m.n, m.s);
     if r.fault != 0 {
-        console::warn(report::wrong_groups(r.fault, r.line, r.number));
+        console::warn(to, report::wrong_groups(r.fault, r.line, r.number));
         return;
     }
     let groups = r.groups;
     let refusal = filling::fill(m, &groups, values);
     if refusal != 0 {
-        console::print(report::refused(refusal));
+        console::print(to, report::refused(refusal));
         return;
     }
-    print_assignment(values);
+    print_assignment(to, values);
 }
 
 // A value for each variable, all unsaid.
@@ -52,42 +55,46 @@ fn unsaid() -> [u8; Model::VARIABLES]
 }
 
 // The settled model, with a value for each of its variables. None has more than there is room for.
-fn with_values(m: Model, text: &[u8]) {
+fn with_values(to: Streams, m: Model, text: &[u8]) {
     let v = numbering::of_model(m);
     let count = v.variables as usize;
     let mut all = unsaid();
     if count <= Model::VARIABLES {
-        write_back(m, text, &mut all[..count]);
+        write_back(to, m, text, &mut all[..count]);
     }
 }
 
 // The groups' text, all of standard input.
-fn with_groups(m: Model) {
+fn with_groups(input: Stdin, to: Streams, m: Model) {
     let mut space = [0u8; GROUPS_BYTES + 1];
-    let n = io::read_full(STDIN_FILENO, &mut space);
+    let n = console::read_input(input, &mut space);
     if GROUPS_BYTES < n {
-        console::warn(report::noted(Notice::GroupsTooLong));
+        console::warn(to, report::noted(Notice::GroupsTooLong));
         return;
     }
-    with_values(m, &space[..n]);
+    with_values(to, m, &space[..n]);
 }
 
-fn main() {
+fn main(rt: HostRuntime) {
+    let to = Streams {
+        out: rt.stdout(),
+        err: rt.stderr(),
+    };
     let mut space = console::sheet_room();
-    let opened = console::open_sheet(1, Notice::Sheet, &mut space);
+    let opened = console::open_sheet(&rt, to.err, 1, Notice::Sheet, &mut space);
     if !opened.good {
         return;
     }
     let n = opened.length;
     let r = sheet::read_sheet(&space[..n]);
     if r.refusal != 0 {
-        console::print(report::refused_at(r.refusal, r.line));
+        console::print(to, report::refused_at(r.refusal, r.line));
         return;
     }
     let p = propagate::propagate(r.model);
     if p.refusal != 0 {
-        console::print(report::refused(p.refusal));
+        console::print(to, report::refused(p.refusal));
         return;
     }
-    with_groups(p.model);
+    with_groups(rt.stdin(), to, p.model);
 }
