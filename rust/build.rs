@@ -1,9 +1,10 @@
-// Links the proved code, target/staticlib/libexports.a of the repository, where it has been built; without it only `compare` is less.
+// Links the proved code, the static library that `rt lib` leaves in crates/exports/out, where it has been built; without it only
+// `compare` is less.
 use std::path::PathBuf;
 
 fn main() {
     let root = PathBuf::from(std::env::var("CARGO_MANIFEST_DIR").unwrap());
-    let folder = root.join("../target/staticlib");
+    let folder = root.join("../crates/exports/out");
     let archive = folder.join("libexports.a");
     println!("cargo:rustc-check-cfg=cfg(proved)");
     println!("cargo:rerun-if-changed={}", archive.display());

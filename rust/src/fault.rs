@@ -1,4 +1,4 @@
-//! What is wrong with a refused sheet, in the words that `read_sheet` prints below the refusal: the columns of a field with what it
+//! What is wrong with a refused sheet, in the words of the crates `sheet_fault` and `fault_text`: the columns of a field with what it
 //! has and must be, a stray byte, the number of fields, or what the head says and how many lines there are.
 use crate::model::*;
 use crate::refusal::*;

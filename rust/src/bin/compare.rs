@@ -43,7 +43,7 @@ fn library(seed: u64, calls: u64) -> Result<bool, String> {
 
 #[cfg(not(proved))]
 fn library(_: u64, _: u64) -> Result<bool, String> {
-    Err("compare was built without the proved code: run `rt staticlib exports` at the root, then build again".to_string())
+    Err("compare was built without the proved code: run `rt lib` in crates/exports, then build again".to_string())
 }
 
 fn programs(sheets: u64) -> Result<bool, String> {
