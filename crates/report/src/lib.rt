@@ -3,7 +3,7 @@
 
 ghost use Rattle.std.specs.Prelude.{◌≡◌, []};
 ghost use Rattle.model.specs.Text.{decimal};
-ghost use Rattle.report.specs.Messages.{meanings, together, IsPart, reasons, meaning_text, refused_text, refused_at_text, refused_line_text, clash_text, number_text, counts_text, passes_text, Counted, closed_text, ending_text, block_line, changed_text, reason_text, not_certified_text, no_draw_text, fault_start, fault_end, wrong_groups_text, notice_text, message, added, added_unsaid, added_result, added_tried};
+ghost use Rattle.report.specs.Messages.{together, IsPart, reasons, meaning_text, refused_text, refused_at_text, refused_line_text, clash_text, number_text, counts_text, passes_text, Counted, closed_text, ending_text, block_line, changed_text, reason_text, not_certified_text, no_draw_text, fault_start, fault_end, wrong_groups_text, notice_text, message, added, added_unsaid, added_result, added_tried};
 
 // The most bytes of a message.
 pub const MOST: usize = 160;
@@ -41,81 +41,72 @@ pub fn add_number(m: Message, v: u32) -> Message
     Message { length, bytes }
 }
 
-// Where a part of a text starts, and where it ends.
-#[derive(Clone, Copy)]
-struct Part(usize, usize);
-
-// Where the meaning of a refusal stands in the text of all of them.
-fn meaning_part(refusal: u32) -> Part
-    ensures { IsPart (together meanings) (meaning_text refusal) result.0 result.1 }
-{
-    match refusal {
-        1 => Part(0, 37),
-        2 => Part(37, 100),
-        3 => Part(100, 164),
-        4 => Part(164, 280),
-        5 => Part(280, 375),
-        6 => Part(375, 461),
-        7 => Part(461, 490),
-        8 => Part(490, 529),
-        9 => Part(529, 562),
-        10 => Part(562, 610),
-        11 => Part(610, 667),
-        12 => Part(667, 692),
-        20 => Part(692, 729),
-        21 => Part(729, 795),
-        22 => Part(795, 820),
-        23 => Part(820, 850),
-        24 => Part(850, 887),
-        25 => Part(887, 926),
-        26 => Part(926, 978),
-        27 => Part(978, 1055),
-        28 => Part(1055, 1091),
-        29 => Part(1091, 1134),
-        30 => Part(1134, 1173),
-        31 => Part(1173, 1238),
-        32 => Part(1238, 1334),
-        33 => Part(1334, 1388),
-        _ => Part(0, 0),
-    }
-}
-
 // What a refusal means.
 fn add_meaning(m: Message, refusal: u32) -> Message
     ensures { result ≡ added m (meaning_text refusal) }
 {
-    let all: &[u8] = b"\
-        the sheet has more than 57,873 bytes\n\
-        the sheet is empty, or its last line does not end in a newline\n\
-        the line is empty, or its length is no multiple of four columns\n\
-        a field is not a number set to the right of its four columns, without needless zeros; only a mark may be left blank\n\
-        another kind of line belongs here: one head (1), then the groups (2), then the constraints (3)\n\
-        the number of fields is wrong, or the code is not 1 to 7, or its count is not 2 to 16\n\
-        a number is out of its range\n\
-        the group's number is not the next one\n\
-        a group stands twice in the line\n\
-        the line is not one of the solver's output form\n\
-        the line names a variable that the listing does not have\n\
-        a variable is said twice\n\
-        the model is out of a sheet's ranges\n\
-        no draw: the groups' limits and constraints contradict each other\n\
-        the table is not settled\n\
-        the listing has no such block\n\
-        the buffer is shorter than the block\n\
-        a value line comes after the closing 0\n\
-        the number of values is not the number of variables\n\
-        the solver's answer is not complete: no closing 0, or a variable is not said\n\
-        the solver's answer breaks a clause\n\
-        a constraint has a clause without literals\n\
-        the groups are not a draw of the sheet\n\
-        the sheets do not have the same number of entrants and of groups\n\
-        one sheet bars an entrant whom the other fixes, or the low of one exceeds the high of the other\n\
-        the sheets have more than 256 constraint lines in all\n\
-    ";
-    let p = meaning_part(refusal);
-    let start = p.0;
-    let end = p.1;
-    add(m, &all[start..end])
+    match refusal {
+        1 => add(m, b"the sheet has more than 57,873 bytes\n"),
+        2 => add(
+            m,
+            b"the sheet is empty, or its last line does not end in a newline\n",
+        ),
+        3 => add(
+            m,
+            b"the line is empty, or its length is no multiple of four columns\n",
+        ),
+        4 => add(
+            m,
+            b"a field is not a number set to the right of its four columns, without needless zeros; only a mark may be left blank\n",
+        ),
+        5 => add(
+            m,
+            b"another kind of line belongs here: one head (1), then the groups (2), then the constraints (3)\n",
+        ),
+        6 => add(
+            m,
+            b"the number of fields is wrong, or the code is not 1 to 7, or its count is not 2 to 16\n",
+        ),
+        7 => add(m, b"a number is out of its range\n"),
+        8 => add(m, b"the group's number is not the next one\n"),
+        9 => add(m, b"a group stands twice in the line\n"),
+        10 => add(m, b"the line is not one of the solver's output form\n"),
+        11 => add(
+            m,
+            b"the line names a variable that the listing does not have\n",
+        ),
+        12 => add(m, b"a variable is said twice\n"),
+        20 => add(m, b"the model is out of a sheet's ranges\n"),
+        21 => add(
+            m,
+            b"no draw: the groups' limits and constraints contradict each other\n",
+        ),
+        22 => add(m, b"the table is not settled\n"),
+        23 => add(m, b"the listing has no such block\n"),
+        24 => add(m, b"the buffer is shorter than the block\n"),
+        25 => add(m, b"a value line comes after the closing 0\n"),
+        26 => add(m, b"the number of values is not the number of variables\n"),
+        27 => add(
+            m,
+            b"the solver's answer is not complete: no closing 0, or a variable is not said\n",
+        ),
+        28 => add(m, b"the solver's answer breaks a clause\n"),
+        29 => add(m, b"a constraint has a clause without literals\n"),
+        30 => add(m, b"the groups are not a draw of the sheet\n"),
+        31 => add(
+            m,
+            b"the sheets do not have the same number of entrants and of groups\n",
+        ),
+        32 => add(
+            m,
+            b"one sheet bars an entrant whom the other fixes, or the low of one exceeds the high of the other\n",
+        ),
+        33 => add(
+            m,
+            b"the sheets have more than 256 constraint lines in all\n",
+        ),
+        _ => m,
+    }
 }
 
 // `refused N`, a newline and the meaning.
@@ -289,6 +280,10 @@ pub fn changed(b: u32) -> Message
     let d = add_number(a, b);
     add(d, b": a byte past the text changed\n")
 }
+
+// Where a part of a text starts, and where it ends.
+#[derive(Clone, Copy)]
+struct Part(usize, usize);
 
 // Where a reason stands in the text of all of them.
 fn reason_part(reason: u32) -> Part
