@@ -4,18 +4,19 @@ use mathlib.Core.Path.{◌≡◌, refl, ap, ◌∙◌}
 use mathlib.Core.Bool.{Bool, true, false, cond}
 use mathlib.Core.List.{List, [], ◌∷◌, ◌++◌}
 use native.Mathlib.Omega.{arith}
-use borrow.Author.Tests.{lt-ltb, le-ltb}
 use lib.Dec.{ltb, eqb}
 use lib.ListN.{length, get_or, take, length-append}
 use Rattle.model.specs.declared.Written.{Written}
 use Rattle.model.specs.declared.Written.TheVariants.{Bytes, Refused}
 use Rattle.model.specs.Limits.{limits}
-use Rattle.model.specs.Lists.{each, range, stop}
+use Rattle.std.specs.List.{flat_map}
+use Rattle.model.specs.Lists.{range, stop}
 use Rattle.model.specs.Words.{has}
 use Rattle.model.specs.Text.{decimal, written_refusal, written_length}
 use Rattle.encoding_laws.proofs.Decimal.{decimal-bound}
 use Rattle.text.specs.Put.{Wrote, placed, place_after}
-use Rattle.text.proofs.Writes.{wrote, no_room_lem, then, kept, front}
+use Rattle.text.proofs.Writes.{wrote, then, kept, front}
+use Rattle.answer.specs.Values.{fitted}
 use Rattle.answer.specs.Groups.{entrant_text, entrants_text, group_text, group_at, groups_text, written_groups, groups_refusal, groups_length}
 use Rattle.answer.proofs.Writing.{then-put, each-length, fits}
 
@@ -48,7 +49,7 @@ group-length : (number w : ℕ) → number ≤ limits.groups → length (group_t
 unfolding group_text
 group-length number w h = simp length-append (omega (arith, decimal-bound 2 number (omega arith), entrants-length w))
 
-pub groups-length : (words : List ℕ) (k : ℕ) → k ≤ limits.groups → length (each (group_at words) (range 0 k)) ≤ limits.groups * (3 * limits.word + 5)
+pub groups-length : (words : List ℕ) (k : ℕ) → k ≤ limits.groups → length (flat_map (group_at words) (range 0 k)) ≤ limits.groups * (3 * limits.word + 5)
 groups-length words k h =
     omega (arith, each-length (group_at words) (3 * limits.word + 5) k (λ i lt. group-length (i + 1) (get_or words i 0) (omega arith)))
 
@@ -75,25 +76,18 @@ module _ (number w : ℕ) (xs : List ℕ) (at : ℕ) (room : at + length (group_
 -- ---- all lines, measured in an array of their own and copied
 
 module _ (words : List ℕ) (s : ℕ) {xs ys : List ℕ} {k n : ℕ} (e : k ≡ min s limits.groups)
-    (w : Wrote (each (group_at words) (range 0 k)) 0 xs ys n) where
-  all-text : each (group_at words) (range 0 k) ≡ groups_text words s
+    (w : Wrote (flat_map (group_at words) (range 0 k)) 0 xs ys n) where
+  all-text : flat_map (group_at words) (range 0 k) ≡ groups_text words s
   unfolding groups_text
-  all-text = ap (λ (j : ℕ). each (group_at words) (range 0 j)) e
+  all-text = ap (λ (j : ℕ). flat_map (group_at words) (range 0 j)) e
 
-  measured : n ≡ length (groups_text words s)
-  measured = omega (arith, w.next, ap length all-text)
-
-  pub refused : (buf : List ℕ) → length buf < n → (Refused 24 ≡ written_groups words s (length buf)) × (buf ≡ placed (groups_text words s) 0 buf)
+  -- what `copy_out` gives of the front of the array that the text was written to
+  pub copied : (buf : List ℕ) {r : Written} {after : List ℕ} → r ≡ fitted (take n ys) (length buf) → after ≡ placed (take n ys) 0 buf
+      → (r ≡ written_groups words s (length buf)) × (after ≡ placed (groups_text words s) 0 buf)
   unfolding written_groups
-  refused buf h =
-      let long : length buf < length (groups_text words s) = omega (arith, measured) in
-      (rw (lt-ltb _ _ long), (no_room_lem (groups_text words s) buf 0 (omega arith)).1)
-
-  pub copied : (buf after : List ℕ) → n ≤ length buf → after ≡ placed (take n ys) 0 buf
-      → (Bytes n ≡ written_groups words s (length buf)) × (after ≡ placed (groups_text words s) 0 buf)
-  unfolding written_groups
-  copied buf after h p =
-      (rw (measured, le-ltb (length buf) (length (groups_text words s)) (omega (arith, measured))), p ∙ ap (λ (t : List ℕ). placed t 0 buf) (front w ∙ all-text))
+  copied buf p q =
+      let same : take n ys ≡ groups_text words s = front w ∙ all-text in
+      (p ∙ ap (λ (t : List ℕ). fitted t (length buf)) same, q ∙ ap (λ (t : List ℕ). placed t 0 buf) same)
 
 pub groups-inside : (words : List ℕ) (s room n : ℕ) → Bytes n ≡ written_groups words s room → n ≤ room
 unfolding written_groups

@@ -1,4 +1,5 @@
 -- A printed draw is read back: the groups' text gives the groups. Assumes nothing.
+use Rattle.std.specs.Prelude.{Ok}
 use Prim.Native.Nat.{ℕ, zero, suc, ◌+◌, ◌-◌, ◌^◌, ◌≤◌, ◌<◌, min}
 use mathlib.Core.Path.{◌≡◌, refl, sym, ap, ◌∙◌}
 use mathlib.Core.Bool.{Bool, true, false, cond}
@@ -11,7 +12,8 @@ use borrow.Author.Tests.{ne_eqb, le-leb, le-ltb}
 use lib.Bits.{bit_or, or_shifted_r}
 use lib.ListN.{length, get_or, take, drop, set, replicate, length-append, length-take, length-replicate}
 use lib.Seq.{sets, sets-eq, get_or-append_seam, take-append_seam}
-use Rattle.model.specs.Lists.{each, range}
+use Rattle.std.specs.List.{flat_map}
+use Rattle.model.specs.Lists.{range}
 use Rattle.model.specs.Limits.{limits}
 use Rattle.model.specs.Sheet.{lines_of}
 use Rattle.model.specs.Assignment.{words_of, variable_in}
@@ -55,15 +57,15 @@ decimal_spaceless v = all-imp _ _ (λ b d q. omega (arith, d.0, q)) (decimal v) 
 abbrev entrant_word : ℕ → ℕ → List (List ℕ)
 entrant_word w e = cond (has w e) (decimal (e + 1) ∷ []) []
 
-words_back : (w : ℕ) (es p : List ℕ) → Spaceless p → words_of (p ++ each (entrant_text w) es) ≡ p ∷ each (entrant_word w) es
+words_back : (w : ℕ) (es p : List ℕ) → Spaceless p → words_of (p ++ flat_map (entrant_text w) es) ≡ p ∷ flat_map (entrant_word w) es
 unfolding entrant_text
 words_back w [] p s = in_first p [] [] [] s refl ∙ rw (append-nil p)
 words_back w (e ∷ es) p s = go (has w e) refl (words_back w es)
   where
-    go : (b : Bool) → has w e ≡ b → ((q : List ℕ) → Spaceless q → words_of (q ++ each (entrant_text w) es) ≡ q ∷ each (entrant_word w) es)
-        → words_of (p ++ each (entrant_text w) (e ∷ es)) ≡ p ∷ each (entrant_word w) (e ∷ es)
+    go : (b : Bool) → has w e ≡ b → ((q : List ℕ) → Spaceless q → words_of (q ++ flat_map (entrant_text w) es) ≡ q ∷ flat_map (entrant_word w) es)
+        → words_of (p ++ flat_map (entrant_text w) (e ∷ es)) ≡ p ∷ flat_map (entrant_word w) (e ∷ es)
     go true q ih =
-        rw q (in_first p (32 ∷ (decimal (e + 1) ++ each (entrant_text w) es)) [] _ s refl ∙ rw (append-nil p, ih (decimal (e + 1)) (decimal_spaceless (e + 1))))
+        rw q (in_first p (32 ∷ (decimal (e + 1) ++ flat_map (entrant_text w) es)) [] _ s refl ∙ rw (append-nil p, ih (decimal (e + 1)) (decimal_spaceless (e + 1))))
     go false q ih = rw q (ih p s)
 
 -- ---- the entrants of a line, from bit k on
@@ -80,13 +82,13 @@ module _ (n w : ℕ) (inside : w < 2 ^ n) (narrow : n ≤ limits.word) where
   below : (k : ℕ) → has w k ≡ true → k < n
   below k e = elim (dec_lt k n) [ yes h ↦ h | no f ↦ absurd (omega (arith, has_one w k e, bit_past n k w inside (omega arith))) ]
 
-  entrants-back : (j k : ℕ) → k + j ≤ 64 → entrants_line n (word_where (has w) k) (each (entrant_word w) (range k j)) ≡ record { fault = 0; number = 0; word = word_where (has w) (k + j) }
+  entrants-back : (j k : ℕ) → k + j ≤ 64 → entrants_line n (word_where (has w) k) (flat_map (entrant_word w) (range k j)) ≡ Ok (word_where (has w) (k + j))
   entrants-back zero k h = let e : k + 0 ≡ k = omega arith in rw e
   entrants-back (suc j) k h = let e : suc k + j ≡ k + suc j = omega arith in go (has w k) refl (entrants-back j (suc k) (omega arith) ∙ rw e)
     where
       go : (b : Bool) → has w k ≡ b
-          → entrants_line n (word_where (has w) (suc k)) (each (entrant_word w) (range (suc k) j)) ≡ record { fault = 0; number = 0; word = word_where (has w) (k + suc j) }
-          → entrants_line n (word_where (has w) k) (each (entrant_word w) (range k (suc j))) ≡ record { fault = 0; number = 0; word = word_where (has w) (k + suc j) }
+          → entrants_line n (word_where (has w) (suc k)) (flat_map (entrant_word w) (range (suc k) j)) ≡ Ok (word_where (has w) (k + suc j))
+          → entrants_line n (word_where (has w) k) (flat_map (entrant_word w) (range k (suc j))) ≡ Ok (word_where (has w) (k + suc j))
       go true q rest =
           let one : k + 1 - 1 ≡ k = omega arith in
           rw (q, number-back (k + 1) (omega arith) (omega arith), one)
@@ -100,7 +102,7 @@ module _ (n w : ℕ) (inside : w < 2 ^ n) (narrow : n ≤ limits.word) where
       at : (e : ℕ) → has (word_where (has w) 64) e ≡ has w e
       at e = elim (dec_lt e 64) [ yes h ↦ has_where (has w) 64 e h | no f ↦ has-past 64 (word_where (has w) 64) e (where_lt (has w) 64) (omega arith) ∙ sym (has-past n w e inside (omega arith)) ]
 
-  line-back : (s g : ℕ) → 1 ≤ g → g ≤ s → s ≤ 256 → line_read n s g (decimal g ++ (58 ∷ []) ++ entrants_text w) ≡ record { fault = 0; number = 0; word = w }
+  line-back : (s g : ℕ) → 1 ≤ g → g ≤ s → s ≤ 256 → line_read n s g (decimal g ++ (58 ∷ []) ++ entrants_text w) ≡ Ok w
   unfolding line_read of_group entrants_text word_where
   line-back s g some known few =
       ap (words_line n s g) (words_back w (range 0 64) (decimal g ++ (58 ∷ [])) (all_append _ (decimal g) (58 ∷ []) (decimal_spaceless g) ((λ q. omega (arith, q)), tt)))
@@ -147,16 +149,16 @@ stored words m s long few =
 
 module _ (words : List ℕ) (n s : ℕ) (narrow : n ≤ limits.word) (few : s ≤ limits.groups) (inside : (i : ℕ) → i < s → get_or words i 0 < 2 ^ n) where
   groups-back : (j i : ℕ) (groups : List ℕ) → i + j ≡ s
-      → groups_from n s (lines_of (each (group_at words) (range i j))) i groups ≡ record { fault = 0; line = 0; number = 0; groups = sets groups i (map (λ k. get_or words k 0) (range i j)) }
+      → groups_from n s (lines_of (flat_map (group_at words) (range i j))) i groups ≡ Ok (sets groups i (map (λ k. get_or words k 0) (range i j)))
   groups-back zero i groups e = rw (le-ltb i s (omega arith))
   groups-back (suc j) i groups e =
       let w = get_or words i 0 in
       let read = line-back n w (inside i (omega arith)) narrow s (i + 1) (omega arith) (omega arith) few in
-      ap (λ (ls : List (List ℕ)). groups_from n s ls i groups) (lines-back (i + 1) w (each (group_at words) (range (suc i) j)))
+      ap (λ (ls : List (List ℕ)). groups_from n s ls i groups) (lines-back (i + 1) w (flat_map (group_at words) (range (suc i) j)))
       ∙ rw (read, add-one i) (groups-back j (suc i) (set groups i w) (omega arith))
 
   -- the groups' text gives the groups, zero past s
-  pub read_back_lem : s ≤ length words → groups_read (groups_text words s) n s ≡ record { fault = 0; line = 0; number = 0; groups = take s words ++ replicate (256 - s) 0 }
+  pub read_back_lem : s ≤ length words → groups_read (groups_text words s) n s ≡ Ok (take s words ++ replicate (256 - s) 0)
   unfolding groups_read groups_text
   read_back_lem long =
       let a : min n limits.word ≡ n = omega arith in

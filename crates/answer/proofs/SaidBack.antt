@@ -4,7 +4,7 @@ use mathlib.Core.Path.{◌≡◌, refl, sym, ap, ◌∙◌, subst}
 use mathlib.Core.Logic.{◌⊎◌, inl, inr}
 use mathlib.Core.Bool.{Bool, true, false, cond, ◌&&◌, ◌||◌}
 use mathlib.Core.List.{List, [], ◌∷◌, ◌++◌, append_assoc, append-nil}
-use mathlib.Core.Option.{some}
+use Rattle.std.specs.Prelude.{Some}
 use native.Mathlib.Decide.{dec_le}
 use native.Mathlib.Omega.{arith}
 use borrow.Author.Tests.{eq-eqb, ne_eqb, le-leb, le-ltb}
@@ -13,7 +13,8 @@ use lib.ListN.{length, get_or, length-append}
 use Rattle.model.specs.declared.Literal.{Literal}
 use Rattle.model.specs.declared.Literal.TheVariants.{Pos, Neg}
 use Rattle.model.specs.declared.Word.TheVariants.{Names}
-use Rattle.model.specs.Lists.{any, every, range}
+use Rattle.std.specs.List.{list_any, list_all}
+use Rattle.model.specs.Lists.{range}
 use Rattle.model.specs.Sheet.{lines_of}
 use Rattle.model.specs.Text.{decimal}
 use Rattle.model.specs.Assignment.{words_of, variable_in, word_value, Said, nothing_said, say_words, form_of, is_passed_over, variable}
@@ -85,13 +86,13 @@ literals-last (x ∷ c) v b {w} e = let k : w ≡ suc v + length c = omega (arit
 
 -- ---- the form of a line: `v`, the literals' words, and what stands after them
 
-variable-back : (v : ℕ) → 1 ≤ v → v < 100000 → variable_in (decimal v) ≡ some v
+variable-back : (v : ℕ) → 1 ≤ v → v < 100000 → variable_in (decimal v) ≡ Some v
 unfolding variable_in
 variable-back v one h =
     let short : length (decimal v) ≤ 9 = omega (arith, decimal-bound 4 v (omega arith)) in
     rw (le-leb _ _ short, ne_eqb (get_or (decimal v) 0 0) 48 (λ q. omega (arith, q, decimal-first v one)), decimal-number v)
 
-positive : (v : ℕ) (ds : List ℕ) → 49 ≤ get_or ds 0 0 → variable_in ds ≡ some v → word_value ds ≡ Names (Pos v)
+positive : (v : ℕ) (ds : List ℕ) → 49 ≤ get_or ds 0 0 → variable_in ds ≡ Some v → word_value ds ≡ Names (Pos v)
 unfolding word_value
 positive v [] h e = absurd (omega arith)
 positive v (d ∷ ds) h e = rw (ne_eqb d 45 (λ q. omega (arith, q)), ne_eqb d 48 (λ q. omega (arith, q)), e)
@@ -113,7 +114,7 @@ words-is t ws e v (b ∷ bs) =
 record Tail (t : List ℕ) (closed : Bool) : Type 0 where
   words : List (List ℕ)
   split : words_of t ≡ [] ∷ words
-  said : say_words words ≡ some (record { literals = []; closed = closed })
+  said : say_words words ≡ Some (record { literals = []; closed = closed })
 
 no-tail : Tail [] false
 unfolding nothing_said
@@ -125,12 +126,12 @@ zero-tail = record { words = (48 ∷ []) ∷ []; split = refl; said = refl }
 
 module _ {t : List ℕ} {closed : Bool} (tail : Tail t closed) where
   words-say : (v : ℕ) (c : List Bool) → 1 ≤ v → v + length c ≤ 100000
-      → say_words (word_list v c ++ tail.words) ≡ some (record { literals = literals_from v c; closed = closed })
+      → say_words (word_list v c ++ tail.words) ≡ Some (record { literals = literals_from v c; closed = closed })
   words-say v [] one few = tail.said
   words-say v (b ∷ bs) one few = rw (word_value_lem b v one (omega arith), words-say (suc v) bs (omega arith) (omega arith))
 
   form-is : (v : ℕ) (c : List Bool) → 1 ≤ v → v + length c ≤ 100000
-      → form_of (118 ∷ spaced v c ++ t) ≡ some (record { literals = literals_from v c; closed = closed })
+      → form_of (118 ∷ spaced v c ++ t) ≡ Some (record { literals = literals_from v c; closed = closed })
   unfolding form_of
   form-is v c one few = rw (words-is t tail.words tail.split v c) (words-say v c one few)
 
@@ -159,7 +160,7 @@ no-offence most k said (b ∷ bs) low h =
     in_reach : ltb most (variable (literal_of b (suc k))) ≡ false
     in_reach = le-ltb most (variable (literal_of b (suc k))) (omega (arith, at))
 
-    new : any (names (literal_of b (suc k))) said ≡ false
+    new : list_any (names (literal_of b (suc k))) said ≡ false
     new = any_none (names (literal_of b (suc k))) said (all-imp _ _ (λ x q. ne_eqb (variable x) (variable (literal_of b (suc k))) (λ z. omega (arith, z, q, at))) said low)
 
 module _ (most : ℕ) (few : most < 100000) where
@@ -256,7 +257,7 @@ either false y (inl t) = absurd t
 either false y (inr t) = t
 
 literals-true : (f c : List Bool) (k : ℕ) → ((j : ℕ) → j < length c → truth f (suc k + j) ≡ get_or c j false) → (i : ℕ) → i < length c
-    → T (any (λ l. eqb (variable l) (suc k + i) && literal_true f l) (literals_from (suc k) c))
+    → T (list_any (λ l. eqb (variable l) (suc k + i) && literal_true f l) (literals_from (suc k) c))
 literals-true f [] k h i r = absurd (omega arith)
 literals-true f (b ∷ bs) k h zero r =
     let e : suc k ≡ suc k + 0 = omega arith in
@@ -266,20 +267,20 @@ literals-true f (b ∷ bs) k h zero r =
 literals-true f (b ∷ bs) k h (suc i) r =
     let e : suc (suc k) + i ≡ suc k + suc i = omega arith in
     either (eqb (variable (literal_of b (suc k))) (suc k + suc i) && literal_true f (literal_of b (suc k))) _
-    (inr (subst (λ (x : ℕ). T (any (λ l. eqb (variable l) x && literal_true f l) (literals_from (suc (suc k)) bs))) e
+    (inr (subst (λ (x : ℕ). T (list_any (λ l. eqb (variable l) x && literal_true f l) (literals_from (suc (suc k)) bs))) e
     (literals-true f bs (suc k) (λ j q. let d : suc (suc k) + j ≡ suc k + suc j = omega arith in ap (truth f) d ∙ h (suc j) (omega arith)) i (omega arith))))
 
 pub text_assigns : (a : List Bool) → T (says (length a) (literals_from 1 a) a)
 unfolding says
 text_assigns a =
-    and_both (eqb (length a) (length a)) (every (λ x. any (λ l. eqb (variable l) x && literal_true a l) (literals_from 1 a)) (range 1 (length a)))
+    and_both (eqb (length a) (length a)) (list_all (λ x. list_any (λ l. eqb (variable l) x && literal_true a l) (literals_from 1 a)) (range 1 (length a)))
     (true-T (eqb (length a) (length a)) (eq-eqb (length a) (length a) refl))
-    (range-every (λ x. any (λ l. eqb (variable l) x && literal_true a l) (literals_from 1 a)) 1 (length a) at)
+    (range-every (λ x. list_any (λ l. eqb (variable l) x && literal_true a l) (literals_from 1 a)) 1 (length a) at)
   where
-    at : (x : ℕ) → 1 ≤ x → x < 1 + length a → T (any (λ l. eqb (variable l) x && literal_true a l) (literals_from 1 a))
+    at : (x : ℕ) → 1 ≤ x → x < 1 + length a → T (list_any (λ l. eqb (variable l) x && literal_true a l) (literals_from 1 a))
     at x l u =
         let e : 1 + (x - 1) ≡ x = omega arith in
-        subst (λ (y : ℕ). T (any (λ l. eqb (variable l) y && literal_true a l) (literals_from 1 a))) e (literals-true a a 0 (λ j q. let d : 1 + j ≡ suc j = omega arith in ap (truth a) d) (x - 1) (omega arith))
+        subst (λ (y : ℕ). T (list_any (λ l. eqb (variable l) y && literal_true a l) (literals_from 1 a))) e (literals-true a a 0 (λ j q. let d : 1 + j ≡ suc j = omega arith in ap (truth a) d) (x - 1) (omega arith))
 
 -- ---- it is bytes
 

@@ -1,23 +1,23 @@
 -- Writes of the values' text, and its length. Assumes nothing.
-use Prim.Native.Nat.{ℕ, suc, ◌+◌, ◌*◌, ◌≤◌, ◌<◌}
+use Prim.Native.Nat.{ℕ, ◌+◌, ◌*◌, ◌≤◌, ◌<◌}
 use mathlib.Core.Path.{◌≡◌, refl, ap, ◌∙◌}
-use mathlib.Core.Bool.{Bool, true, false, cond}
+use mathlib.Core.Bool.{not, Bool, true, false, cond}
 use mathlib.Core.List.{List, [], ◌∷◌, ◌++◌}
 use native.Mathlib.Omega.{arith}
 use borrow.Author.Tests.{eq-eqb, ne_eqb, lt-ltb, le-ltb}
 use lib.Dec.{ltb, eqb}
-use lib.ListN.{length, get_or, take, drop, length-append, drop_of_length-le}
+use lib.ListN.{length, get_or, take, length-append}
 use Rattle.model.specs.declared.Written.{Written}
 use Rattle.model.specs.declared.Written.TheVariants.{Bytes, Refused}
-use Rattle.model.specs.Lists.{those, stop}
+use Rattle.model.specs.Lists.{stop}
 use Rattle.model.specs.Limits.{limits}
 use Rattle.model.specs.Assignment.{is_said}
-use Rattle.model.proofs.Loops.{drop-next}
 use Rattle.model.specs.Text.{decimal, written_refusal, written_length}
 use Rattle.encoding_laws.proofs.Decimal.{decimal-bound}
 use Rattle.text.specs.Put.{Wrote, placed, place_after}
-use Rattle.text.proofs.Writes.{no_room_lem, then, kept, front}
-use Rattle.answer.specs.Values.{value_text, value_at, said_text, values_text, unsaid_count, written_text, text_refusal, text_length, text_buffer}
+use Rattle.text.proofs.Writes.{then, kept, front}
+use Rattle.std.proofs.lemmas.List.Sums.{count_by-le-length}
+use Rattle.answer.specs.Values.{fitted, value_text, value_at, said_text, values_text, unsaid_count, written_text, text_refusal, text_length, text_buffer}
 use Rattle.answer.proofs.Writing.{then-put, each-length, fits}
 
 -- ---- a value
@@ -77,46 +77,20 @@ module _ (values text buf : List ℕ) where
   unfolding written_text text_buffer
   many h = (rw (lt-ltb limits.variables (length values) h), rw (lt-ltb limits.variables (length values) h))
 
-  module _ (few : length values ≤ limits.variables) {xs ys : List ℕ} {n : ℕ} (w : Wrote text 0 xs ys n) where
-    pub long : length buf < n → (Refused 24 ≡ written_text values text (length buf)) × (buf ≡ text_buffer values text buf)
-    unfolding written_text text_buffer
-    long h =
-        let l : length buf < length text = omega (arith, w.next) in
-        (rw (le-ltb limits.variables (length values) few, lt-ltb _ _ l), rw (le-ltb limits.variables (length values) few) (no_room_lem text buf 0 (omega arith)).1)
-
-    pub copied : (after : List ℕ) → n ≤ length buf → after ≡ placed (take n ys) 0 buf
-        → (Bytes n ≡ written_text values text (length buf)) × (after ≡ text_buffer values text buf)
-    unfolding written_text text_buffer
-    copied after h p =
-        let e : n ≡ length text = omega (arith, w.next) in (
-          rw (le-ltb limits.variables (length values) few, e, le-ltb (length buf) (length text) (omega arith)),
-          rw (le-ltb limits.variables (length values) few) (p ∙ ap (λ (t : List ℕ). placed t 0 buf) (front w)),
-        )
-
--- ---- the variables that no line said
-
-module _ (values : List ℕ) (i : ℕ) (h : i < length values) where
-  pub unsaid-more : is_said (get_or values i 0) ≡ false → unsaid_count (drop i values) ≡ 1 + unsaid_count (drop (i + 1) values)
-  unfolding unsaid_count
-  unsaid-more e = rw (drop-next 0 values i h, e, those) (omega arith)
-
-  pub unsaid-same : is_said (get_or values i 0) ≡ true → unsaid_count (drop i values) ≡ unsaid_count (drop (i + 1) values)
-  unfolding unsaid_count
-  unsaid-same e = rw (drop-next 0 values i h, e, those)
-
-pub unsaid-none : (values : List ℕ) (i : ℕ) → length values ≤ i → unsaid_count (drop i values) ≡ 0
-unsaid-none values i h = ap unsaid_count (drop_of_length-le values h) ∙ (unfold unsaid_count in refl)
+  -- what `copy_out` gives of the front of the array that the text was written to
+  pub copied : length values ≤ limits.variables → {xs ys : List ℕ} {n : ℕ} → Wrote text 0 xs ys n → {r : Written} {after : List ℕ}
+      → r ≡ fitted (take n ys) (length buf) → after ≡ placed (take n ys) 0 buf → (r ≡ written_text values text (length buf)) × (after ≡ text_buffer values text buf)
+  unfolding written_text text_buffer
+  copied few w p q = (
+    rw (le-ltb limits.variables (length values) few) (p ∙ ap (λ (t : List ℕ). fitted t (length buf)) (front w)),
+    rw (le-ltb limits.variables (length values) few) (q ∙ ap (λ (t : List ℕ). placed t 0 buf) (front w)),
+  )
 
 -- ---- what a caller asks
 
 pub unsaid-le : (values : List ℕ) → unsaid_count values ≤ length values
 unfolding unsaid_count
-unsaid-le [] = omega arith
-unsaid-le (x ∷ values) = go (is_said x) refl (unsaid-le values)
-  where
-    go : (t : Bool) → is_said x ≡ t → unsaid_count values ≤ length values → unsaid_count (x ∷ values) ≤ suc (length values)
-    go true e ih = rw (e, those) (omega arith)
-    go false e ih = rw (e, those) (omega arith)
+unsaid-le values = count_by-le-length (λ x. not (is_said x)) values
 
 pub text-inside : (values text : List ℕ) (room n : ℕ) → Bytes n ≡ written_text values text room → n ≤ room
 unfolding written_text

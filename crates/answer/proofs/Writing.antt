@@ -8,7 +8,8 @@ use borrow.Author.Tests.{ltb-false}
 use lib.Dec.{ltb}
 use Rattle.model.specs.declared.Written.TheVariants.{Bytes, Refused}
 use lib.ListN.{length, length-append}
-use Rattle.model.specs.Lists.{each, range}
+use Rattle.std.specs.List.{flat_map}
+use Rattle.model.specs.Lists.{range}
 use Rattle.model.proofs.Lists.{length-each, total-le, range_all, range_length}
 use Rattle.text.specs.Put.{Wrote, placed, place_after}
 use Rattle.text.proofs.Writes.{wrote, then, kept}
@@ -19,7 +20,7 @@ pub then-put : {t xs ys zs : List ℕ} {a n k : ℕ} (u : List ℕ) → Wrote t 
 then-put {t} u w p q h = then w (wrote p q (omega (arith, kept w, w.next, length-append t u)))
 
 -- texts in a row, each of up to `most` bytes
-pub each-length : (f : ℕ → List ℕ) (most k : ℕ) → ((i : ℕ) → i < k → length (f i) ≤ most) → length (each f (range 0 k)) ≤ k * most
+pub each-length : (f : ℕ → List ℕ) (most k : ℕ) → ((i : ℕ) → i < k → length (f i) ≤ most) → length (flat_map f (range 0 k)) ≤ k * most
 each-length f most k h =
     rw (length-each f (range 0 k))
     (rw (range_length 0 k) at (total-le (λ i. length (f i)) most (range 0 k) (range_all (λ i. length (f i) ≤ most) 0 k (λ i lo hi. h i (omega arith)))))

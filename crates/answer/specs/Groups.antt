@@ -2,7 +2,8 @@
 use Rattle.std.specs.Prelude.{ℕ, ◌+◌, min, cond, List, [], ◌∷◌, ◌++◌, ltb, eqb, length, get_or}
 use Rattle.model.specs.declared.Written.{Written}
 use Rattle.model.specs.declared.Written.TheVariants.{Bytes, Refused}
-use Rattle.model.specs.Lists.{each, range, stop}
+use Rattle.std.specs.List.{flat_map}
+use Rattle.model.specs.Lists.{range, stop}
 use Rattle.model.specs.Words.{has}
 use Rattle.model.specs.Limits.{limits}
 use Rattle.model.specs.Text.{decimal}
@@ -12,7 +13,7 @@ unfoldable pub entrant_text : ℕ → ℕ → List ℕ
 entrant_text w e = cond (has w e) ((32 ∷ []) ++ decimal (e + 1)) []
 
 unfoldable pub entrants_text : ℕ → List ℕ
-entrants_text w = each (entrant_text w) (range 0 limits.word)
+entrants_text w = flat_map (entrant_text w) (range 0 limits.word)
 
 -- the number, a colon, the entrants, byte 10
 unfoldable pub group_text : ℕ → ℕ → List ℕ
@@ -23,7 +24,7 @@ group_at words i = group_text (i + 1) (get_or words i 0)
 
 -- the first s groups, or all where there are no more
 unfoldable pub groups_text : List ℕ → ℕ → List ℕ
-groups_text words s = each (group_at words) (range 0 (min s limits.groups))
+groups_text words s = flat_map (group_at words) (range 0 (min s limits.groups))
 
 -- 24 where the buffer is shorter than the text
 unfoldable pub written_groups : List ℕ → ℕ → ℕ → Written

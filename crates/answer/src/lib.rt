@@ -2,16 +2,38 @@
 #![tactic(auto)]
 
 ghost use Rattle.std.specs.Prelude.{◌≡◌, ◌+◌, ◌*◌, ◌≤◌, ◌<◌, min, length};
-ghost use Rattle.model.specs.Lists.{each, range};
+ghost use Rattle.std.specs.List.{flat_map};
+ghost use Rattle.model.specs.Lists.{range};
 ghost use Rattle.model.specs.Assignment.{is_said};
 ghost use Rattle.model.specs.Limits.{limits};
 ghost use Rattle.model.specs.Text.{written_refusal, written_length};
 ghost use Rattle.text.specs.Put.{Wrote, placed};
-ghost use Rattle.answer.specs.Values.{value_text, said_text, values_text, unsaid_count, written_text, text_refusal, text_length, text_buffer};
+ghost use Rattle.answer.specs.Values.{fitted, value_text, said_text, values_text, unsaid_count, written_text, text_refusal, text_length, text_buffer};
 ghost use Rattle.answer.specs.Assignment.{word_text, column_after, assignment_text};
 ghost use Rattle.answer.specs.Groups.{entrant_text, entrants_text, group_text, group_at, groups_text, written_groups, groups_refusal, groups_length};
 
 use model::{Model, Written};
+
+// ---- a text is written to a local array first, which measures it
+
+// An array of zeros, of which only the length is told: the list is too long for the prover to look at.
+fn space<const N: usize>() -> [u8; N]
+    ensures { length result ≡ N }
+{
+    [0; N]
+}
+
+// The text, at the start of buf; 24 where buf is shorter, and then no byte changes.
+fn copy_out(bytes: &[u8], buf: &mut [u8]) -> Written
+    ensures value { result ≡ fitted bytes.now (length buf.old) }
+    ensures buf_after { buf.new ≡ placed bytes.now 0 buf.old }
+{
+    if buf.len() < bytes.len() {
+        return Written::Refused(24);
+    }
+    text::put_bytes(buf, 0, bytes);
+    Written::Bytes(bytes.len())
+}
 
 // ---- groups
 
@@ -36,11 +58,8 @@ fn put_entrants(buf: &mut [u8], at: usize, w: u64) -> usize
     ensures { Wrote (entrants_text w) at buf.old buf.new result }
 {
     let mut n = at;
-    let mut e: u32 = 0;
-    while e < Model::WORD {
-        let k = put_entrant(buf, n, w, e);
-        n = k;
-        e += 1;
+    for e in 0..Model::WORD {
+        n = put_entrant(buf, n, w, e);
     }
     n
 }
@@ -57,52 +76,27 @@ fn put_group(buf: &mut [u8], at: usize, number: u32, w: u64) -> usize
 }
 
 // The first k groups.
-fn put_groups(buf: &mut [u8], words: [u64; Model::GROUPS], k: usize) -> usize
+fn put_groups(buf: &mut [u8], words: &[u64; Model::GROUPS], k: usize) -> usize
     requires k_le_groups { k ≤ limits.groups }
-    requires k_in_bounds { length (each (group_at words) (range 0 k)) ≤ length buf.old }
-    ensures { Wrote (each (group_at words) (range 0 k)) 0 buf.old buf.new result }
+    requires k_in_bounds { length (flat_map (group_at words.now) (range 0 k)) ≤ length buf.old }
+    ensures { Wrote (flat_map (group_at words.now) (range 0 k)) 0 buf.old buf.new result }
 {
     let mut n: usize = 0;
-    let mut i: usize = 0;
-    while i < k {
-        let m = put_group(buf, n, i as u32 + 1, words[i]);
-        n = m;
-        i += 1;
+    for i in 0..k {
+        n = put_group(buf, n, i as u32 + 1, words[i]);
     }
     n
 }
 
-// Room for all lines. Only its length is told: the list of its zeros is too long for the prover to look at.
-fn groups_space() -> [u8; GROUPS_MOST]
-    ensures { length result ≡ limits.groups * (3 * limits.word + 5) }
-{
-    [0; GROUPS_MOST]
-}
-
-// The number of groups that are written: s, or all where there are no more.
-fn count(s: u32) -> usize
-    ensures { result ≡ min s limits.groups }
-{
-    if s as usize <= Model::GROUPS {
-        return s as usize;
-    }
-    Model::GROUPS
-}
-
-// The lines of groups 1..s; 24 where the buffer is shorter than their text, and then no byte changes. They are written to a local array first,
-// which measures them.
+// The lines of groups 1..s, or of all where there are no more; 24 where the buffer is shorter than their text, and then no byte changes.
 pub fn write_groups(words: [u64; Model::GROUPS], s: u32, buf: &mut [u8]) -> Written
     ensures value { result ≡ written_groups words s (length buf.old) }
     ensures buf_after { buf.new ≡ placed (groups_text words s) 0 buf.old }
     ensures result_value { (written_refusal result ≡ groups_refusal words s (length buf.old)) × (written_length result ≡ groups_length words s (length buf.old)) }
 {
-    let mut all = groups_space();
-    let n = put_groups(&mut all, words, count(s));
-    if buf.len() < n {
-        return Written::Refused(24);
-    }
-    text::put_bytes(buf, 0, &all[..n]);
-    Written::Bytes(n)
+    let mut all = space::<GROUPS_MOST>();
+    let n = put_groups(&mut all, &words, (s as usize).min(Model::GROUPS));
+    copy_out(&all[..n], buf)
 }
 
 // ---- values
@@ -115,15 +109,17 @@ fn put_value(buf: &mut [u8], at: usize, x: u8, v: u32) -> usize
     requires { at + length (value_text x v) ≤ length buf.old }
     ensures { Wrote (value_text x v) at buf.old buf.new result }
 {
-    if x == 1 {
-        let n = text::put_bytes(buf, at, b" ");
-        return text::put_number(buf, n, v);
+    match x {
+        1 => {
+            let n = text::put_bytes(buf, at, b" ");
+            text::put_number(buf, n, v)
+        }
+        2 => {
+            let n = text::put_bytes(buf, at, b" -");
+            text::put_number(buf, n, v)
+        }
+        _ => at,
     }
-    if x == 2 {
-        let n = text::put_bytes(buf, at, b" -");
-        return text::put_number(buf, n, v);
-    }
-    at
 }
 
 fn put_values(buf: &mut [u8], at: usize, values: &[u8]) -> usize
@@ -132,11 +128,8 @@ fn put_values(buf: &mut [u8], at: usize, values: &[u8]) -> usize
     ensures { Wrote (said_text values.now) at buf.old buf.new result }
 {
     let mut n = at;
-    let mut i: usize = 0;
-    while i < values.len() {
-        let k = put_value(buf, n, values[i], i as u32 + 1);
-        n = k;
-        i += 1;
+    for (i, x) in values.iter().enumerate() {
+        n = put_value(buf, n, *x, i as u32 + 1);
     }
     n
 }
@@ -152,12 +145,6 @@ fn put_line(buf: &mut [u8], values: &[u8]) -> usize
     text::put_bytes(buf, b, b"\n")
 }
 
-fn values_space() -> [u8; VALUES_MOST]
-    ensures { length result ≡ 7 * limits.variables + 2 }
-{
-    [0; VALUES_MOST]
-}
-
 // The line of the values that are said; 26 of more values than a listing has variables, 24 where the buffer is shorter than the text, and then no byte changes.
 pub fn write_values(values: &[u8], buf: &mut [u8]) -> Written
     ensures value { result ≡ written_text values.now (values_text values.now) (length buf.old) }
@@ -167,37 +154,24 @@ pub fn write_values(values: &[u8], buf: &mut [u8]) -> Written
     if Model::VARIABLES < values.len() {
         return Written::Refused(26);
     }
-    let mut all = values_space();
+    let mut all = space::<VALUES_MOST>();
     let n = put_line(&mut all, values);
-    if buf.len() < n {
-        return Written::Refused(24);
-    }
-    text::put_bytes(buf, 0, &all[..n]);
-    Written::Bytes(n)
+    copy_out(&all[..n], buf)
 }
 
+#[tactic(auto, unfolding(model::specs::Assignment::is_said))]
 fn is_said(x: u8) -> bool
     ensures { result ≡ is_said x }
 {
-    if x < 1 {
-        return false;
-    }
-    x <= 2
+    1 <= x && x <= 2
 }
 
 // How many variables no line said.
+#[tactic(auto, unfolding(crate::specs::Values::unsaid_count))]
 pub fn unsaid(values: &[u8]) -> usize
     ensures { result ≡ unsaid_count values.now }
 {
-    let mut k: usize = 0;
-    let mut i: usize = 0;
-    while i < values.len() {
-        if !is_said(values[i]) {
-            k += 1;
-        }
-        i += 1;
-    }
-    k
+    values.iter().filter(|x| !is_said(**x)).count()
 }
 
 // ---- an assignment, on `v` lines
@@ -247,7 +221,7 @@ fn put_value_word(buf: &mut [u8], pen: Pen, x: u8, v: u32) -> Pen
     ensures wrote { Wrote (word_text pen.column (value_text x v)) pen.at buf.old buf.new result.at }
     ensures column_value { result.column ≡ column_after pen.column (value_text x v) }
 {
-    let mut word: [u8; WORD_MOST] = [0; WORD_MOST];
+    let mut word = [0; WORD_MOST];
     let n = put_value(&mut word, 0, x, v);
     put_word(buf, pen, &word[..n])
 }
@@ -262,20 +236,11 @@ fn put_assignment(buf: &mut [u8], values: &[u8]) -> usize
         at: start,
         column: 1,
     };
-    let mut i: usize = 0;
-    while i < values.len() {
-        let next = put_value_word(buf, pen, values[i], i as u32 + 1);
-        pen = next;
-        i += 1;
+    for (i, x) in values.iter().enumerate() {
+        pen = put_value_word(buf, pen, *x, i as u32 + 1);
     }
     let last = put_word(buf, pen, b" 0");
     text::put_bytes(buf, last.at, b"\n")
-}
-
-fn assignment_space() -> [u8; ASSIGNMENT_MOST]
-    ensures { length result ≡ 9 * limits.variables + 6 }
-{
-    [0; ASSIGNMENT_MOST]
 }
 
 // The values on `v` lines with a closing 0; 26 of more values than a listing has variables, 24 where the buffer is shorter than the text, and then no byte changes.
@@ -287,11 +252,7 @@ pub fn write_assignment(values: &[u8], buf: &mut [u8]) -> Written
     if Model::VARIABLES < values.len() {
         return Written::Refused(26);
     }
-    let mut all = assignment_space();
+    let mut all = space::<ASSIGNMENT_MOST>();
     let n = put_assignment(&mut all, values);
-    if buf.len() < n {
-        return Written::Refused(24);
-    }
-    text::put_bytes(buf, 0, &all[..n]);
-    Written::Bytes(n)
+    copy_out(&all[..n], buf)
 }

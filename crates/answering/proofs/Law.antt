@@ -14,7 +14,8 @@ use Rattle.model.specs.declared.SheetRead.{SheetRead}
 use Rattle.model.specs.declared.Propagated.{Propagated}
 use Rattle.model.specs.declared.Closed.{Closed}
 use Rattle.model.specs.declared.Reading.{Reading}
-use Rattle.model.specs.Lists.{every, stop}
+use Rattle.std.specs.List.{list_all}
+use Rattle.model.specs.Lists.{stop}
 use Rattle.model.specs.Limits.{limits}
 use Rattle.model.specs.Sheet.{read_sheet}
 use Rattle.model.specs.Propagate.{propagated}
@@ -51,7 +52,7 @@ module _ (b : List ℕ) (m : Model) (h : Accepted b m) where
     pub matching : Matching m q
     matching = subst (λ (p : Model). (propagated p).refusal ≡ 0 → Matching m (propagated p).model) same demand.matches e
 
-    every-unsaid : (k : ℕ) → T (every (λ b. not (is_said b)) (replicate k 0))
+    every-unsaid : (k : ℕ) → T (list_all (λ b. not (is_said b)) (replicate k 0))
     unfolding is_said
     every-unsaid zero = tt
     every-unsaid (suc k) = every-unsaid k
@@ -59,7 +60,7 @@ module _ (b : List ℕ) (m : Model) (h : Accepted b m) where
     fresh : T (is_fresh q (unsaid_values q))
     unfolding is_fresh unsaid_values
     fresh =
-        and_both (eqb (length (replicate {A = ℕ} (variable_count q) 0)) (variable_count q)) (every (λ b. not (is_said b)) (replicate (variable_count q) 0))
+        and_both (eqb (length (replicate {A = ℕ} (variable_count q) 0)) (variable_count q)) (list_all (λ b. not (is_said b)) (replicate (variable_count q) 0))
         (true-T _ (eq-eqb _ _ (length-replicate {A = ℕ} (variable_count q) 0))) (every-unsaid (variable_count q))
 
     back : (lines : List (List ℕ)) → ReadingBack q (unsaid_values q) lines
@@ -185,7 +186,7 @@ module _ (b : List ℕ) (lines : List (List ℕ)) where
       let k : length w ≡ variable_count q = (reading-matches (variable_count q) lines nothing_said fresh_reading vs (fresh-matches q vs (fresh b m h e))).holds.size in
       subst (λ (x : ℕ). (x ≡ 0) ⊎ ((x ≡ 27) ⊎ (x ≡ 28)))
       (sym (ap refusal_of (settled-answer b lines m h e) ∙ settled-rest q s.in_range_lem s.fixpoint _ ∙ rw (eq-eqb (length w) (variable_count q) k)))
-      (close-left ((reading_after lines fresh_reading vs).closed && every is_said w) (satisfying q (assignment_of w)))
+      (close-left ((reading_after lines fresh_reading vs).closed && list_all is_said w) (satisfying q (assignment_of w)))
 
   pub answers : Answers b lines (answered b lines)
   answers = record {

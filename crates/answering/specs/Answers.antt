@@ -5,7 +5,7 @@ use Rattle.model.specs.declared.Model.{Model}
 use Rattle.model.specs.declared.SheetRead.{SheetRead}
 use Rattle.model.specs.declared.Propagated.{Propagated}
 use Rattle.model.specs.declared.Closed.{Closed}
-use Rattle.model.specs.Lists.{every}
+use Rattle.std.specs.List.{list_all}
 use Rattle.model.specs.Limits.{limits}
 use Rattle.model.specs.Sheet.{lines_of, read_sheet}
 use Rattle.model.specs.Propagate.{propagated}
@@ -82,8 +82,8 @@ pub record Answers (b : List ℕ) (lines : List (List ℕ)) (r : Answered) : Typ
 -- d is the answer to the text of an assignment: `v` lines of at most 78 columns with a closing 0, as `answer::write_assignment` writes them
 pub record Reached (b : List ℕ) (m : Model) (d : List ℕ) : Type 0 where
   pub assignment : List Bool
-  pub bytes : T (every (λ x. ltb x 256) (assignment_text (values_of assignment)))
-  pub short : T (every (λ l. leb (length l) 78) (lines_of (assignment_text (values_of assignment))))
+  pub bytes : T (list_all (λ x. ltb x 256) (assignment_text (values_of assignment)))
+  pub short : T (list_all (λ l. leb (length l) 78) (lines_of (assignment_text (values_of assignment))))
   pub say : SayModel (propagated m).model (lines_of (assignment_text (values_of assignment))) assignment
   pub answer : answered b (lines_of (assignment_text (values_of assignment))) ≡ record { refusal = 0; line = 0; s = m.s; groups = d ++ replicate (limits.groups - m.s) 0 }
 

@@ -1,7 +1,7 @@
 // From bytes to groups: a sheet and a solver's whole output, read, settled, read back and closed. Four of the entries one after the other, with nothing lent.
 #![tactic(auto)]
 
-ghost use Rattle.std.specs.Prelude.{◌≡◌, ◌+◌, min, length, replicate};
+ghost use Rattle.std.specs.Prelude.{◌≡◌, length, replicate};
 ghost use Rattle.model.specs.Limits.{limits};
 ghost use Rattle.model.specs.Sheet.{lines_of};
 ghost use Rattle.model.specs.Demand.{fresh_reading, reading_after, values_after_all};
@@ -19,6 +19,7 @@ pub struct Answered {
     pub groups: [u64; Model::GROUPS],
 }
 
+#[tactic(auto, unfolding(crate::specs::Answers::no_groups))]
 pub fn refused(refusal: u32, line: u32) -> Answered
     ensures { result ≡ no_groups refusal line }
 {
@@ -30,17 +31,7 @@ pub fn refused(refusal: u32, line: u32) -> Answered
     }
 }
 
-// Where the next line begins, after one that ends at `end`; the last may lack its newline.
-fn next_line(text: &[u8], end: usize) -> usize
-    ensures { result ≡ min (end + 1) (length text.now) }
-{
-    if end < text.len() {
-        return end + 1;
-    }
-    text.len()
-}
-
-// Every line of the output, refused ones included, from a fresh reading.
+// Every line of the output, refused ones included, from a fresh reading; the last may lack its newline.
 fn read_lines(output: &[u8], values: &mut [u8]) -> Reading
     ensures value { result ≡ reading_after (lines_of output.now) fresh_reading values.old }
     ensures values_after { values.new ≡ values_after_all (lines_of output.now) fresh_reading values.old }
@@ -50,10 +41,8 @@ fn read_lines(output: &[u8], values: &mut [u8]) -> Reading
     while at < output.len() {
         let rest = &output[at..];
         let len = sheet::line_length(rest);
-        let r = assignment::read_line(reading, &rest[..len], values);
-        let after = r.reading;
-        reading = after;
-        at = next_line(output, at + len);
+        reading = assignment::read_line(reading, &rest[..len], values).reading;
+        at = (at + len + 1).min(output.len());
     }
     reading
 }
@@ -62,7 +51,7 @@ fn read_lines(output: &[u8], values: &mut [u8]) -> Reading
 fn close_after(m: Model, output: &[u8], values: &mut [u8]) -> Closed
     ensures { result ≡ closed_after m (lines_of output.now) (replicate (length values.old) 0) }
 {
-    buffers::clear_bytes(values);
+    values.fill(0);
     let reading = read_lines(output, values);
     solution::close(m, reading, values)
 }

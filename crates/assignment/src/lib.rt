@@ -5,7 +5,6 @@ ghost use Rattle.std.specs.Prelude.{◌≡◌, false, ◌<◌, length, get_or};
 ghost use Rattle.model.specs.Assignment.{line_read, values_after};
 ghost use Rattle.correctness.specs.Entries.{LineReads};
 
-use line_form::Form;
 use model::{LineRead, Reading};
 
 // A line whose first byte is `v`, with no closing 0 read before it.
@@ -14,7 +13,7 @@ fn read_values(reading: Reading, line: &[u8], values: &mut [u8]) -> LineRead
     ensures value { result ≡ line_read reading line.now values.old }
     ensures values_after { values.new ≡ values_after reading line.now values.old }
 {
-    let Form::Good(shape) = line_form::line_form(line) else {
+    let Some(shape) = line_form::line_form(line) else {
         return LineRead {
             refusal: 10,
             reading,
@@ -27,13 +26,15 @@ fn read_values(reading: Reading, line: &[u8], values: &mut [u8]) -> LineRead
             reading: Reading { closed },
         };
     }
-    let refusal = literals::take_literals(&line[2..], shape.count, values);
-    if refusal != 0 {
-        return LineRead { refusal, reading };
-    }
-    LineRead {
-        refusal: 0,
-        reading: Reading { closed },
+    match literals::take_literals(&line[2..], shape.count, values) {
+        Err(refusal) => LineRead {
+            refusal: refusal.number(),
+            reading,
+        },
+        Ok(_) => LineRead {
+            refusal: 0,
+            reading: Reading { closed },
+        },
     }
 }
 

@@ -68,21 +68,12 @@ fn told(room: usize, t: Tried) -> report::Tried
     }
 }
 
-fn one_less(n: usize) -> usize
-    ensures { result ≤ n }
-{
-    if n == 0 {
-        return 0;
-    }
-    n - 1
-}
-
 // The block's length, and what a buffer of that length and one a byte shorter give. An empty block has no shorter buffer.
 fn print_block(to: Streams, m: Model, b: u32) -> bool {
     let any = try_block(m, b, Model::BLOCK_BYTES);
     let n = any.length;
     let exact = try_block(m, b, n);
-    let less = one_less(n);
+    let less = n.saturating_sub(1);
     let short = try_block(m, b, less);
     if !console::print(
         to,
@@ -97,13 +88,10 @@ fn print_block(to: Streams, m: Model, b: u32) -> bool {
 }
 
 fn print_blocks(to: Streams, m: Model) {
-    let last = blocks::block_count(m);
-    let mut b: u32 = 0;
-    while b <= last {
+    for b in 0..=blocks::block_count(m) {
         if !print_block(to, m, b) {
             return;
         }
-        b += 1;
     }
 }
 

@@ -21,10 +21,7 @@ fn node_count(g: Group) -> u32
     if !t.exists {
         return 0;
     }
-    if t.size < 2 {
-        return 0;
-    }
-    t.size - 1
+    t.size.saturating_sub(1)
 }
 
 // 0 where a group does not count.
@@ -45,17 +42,14 @@ pub struct Division {
 }
 
 // Of the first s groups.
-pub fn of_groups(groups: [Group; Model::GROUPS], s: u32) -> Division
-    ensures { (result.first ≡ first_blocks (take s groups)) × (result.lines ≡ 1 + total nodes_of (take s groups)) × (result.lines ≤ 1 + limits.groups * limits.word) }
+pub fn of_groups(groups: &[Group; Model::GROUPS], s: u32) -> Division
+    ensures { (result.first ≡ first_blocks (take s groups.now)) × (result.lines ≡ 1 + total nodes_of (take s groups.now)) × (result.lines ≤ 1 + limits.groups * limits.word) }
 {
     let mut first = [0; Model::GROUPS];
     let mut lines = 1;
-    let mut i: usize = 0;
-    while i < Model::GROUPS {
+    for (i, g) in groups.iter().enumerate() {
         first[i] = lines;
-        let g = groups[i];
-        lines += nodes_where(i < s as usize, g);
-        i += 1;
+        lines += nodes_where(i < s as usize, *g);
     }
     Division { first, lines }
 }
@@ -70,10 +64,8 @@ pub fn block_count(m: Model) -> u32
     if !range::in_range(m) {
         return 0;
     }
-    let groups = m.groups;
-    let constraints = m.constraints;
-    model::whole(groups, constraints);
-    let d = of_groups(groups, m.s);
+    model::whole(m.groups, m.constraints);
+    let d = of_groups(&m.groups, m.s);
     d.lines - 1 + m.c
 }
 
@@ -85,10 +77,8 @@ pub fn judged(m: Model, b: u32) -> u32
     if refusal != 0 {
         return refusal;
     }
-    let groups = m.groups;
-    let constraints = m.constraints;
-    model::whole(groups, constraints);
-    let d = of_groups(groups, m.s);
+    model::whole(m.groups, m.constraints);
+    let d = of_groups(&m.groups, m.s);
     if d.lines - 1 + m.c < b {
         return 23;
     }

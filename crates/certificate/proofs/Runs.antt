@@ -10,7 +10,8 @@ use lib.ListN.{length, take, drop}
 use lib.Seq.{take_at}
 use Rattle.model.specs.declared.Literal.{Literal}
 use Rattle.model.specs.declared.Model.{Model}
-use Rattle.model.specs.Lists.{every, each, range}
+use Rattle.std.specs.List.{list_all, flat_map}
+use Rattle.model.specs.Lists.{range}
 use Rattle.model.specs.Propagate.{Settled}
 use Rattle.model.specs.Cnf.{variable_count, block_count, block_clauses, clauses}
 use Rattle.model.specs.Text.{clause_text, block_text}
@@ -29,13 +30,13 @@ use Rattle.refutation.specs.Sound.{Holds}
 -- ---- the blocks of a run
 
 abbrev pub run-clauses : Model → ℕ → ℕ → List (List Literal)
-run-clauses m b n = each (block_clauses m) (range b n)
+run-clauses m b n = flat_map (block_clauses m) (range b n)
 
 -- the text of blocks from 1 on
-blocks_text : (m : Model) (b n : ℕ) → 1 ≤ b → each (block_text m) (range b n) ≡ each clause_text (run-clauses m b n)
+blocks_text : (m : Model) (b n : ℕ) → 1 ≤ b → flat_map (block_text m) (range b n) ≡ flat_map clause_text (run-clauses m b n)
 unfolding block_text
 blocks_text m b n h =
-    each-range_ext (block_text m) (λ k. each clause_text (block_clauses m k)) b n
+    each-range_ext (block_text m) (λ k. flat_map clause_text (block_clauses m k)) b n
     (λ k l u. let e : eqb k 0 ≡ false = ne_eqb k 0 (λ z. omega arith) in rw e)
     ∙ sym (each-each clause_text (block_clauses m) (range b n))
 
@@ -45,11 +46,11 @@ unfolding clauses
 split m b n k h e =
     let f : 1 + (b - 1) ≡ b = omega arith in
     ap (λ (j : ℕ). run-clauses m 1 j) e
-    ∙ ap (each (block_clauses m)) (range-append 1 (b - 1) (n + k))
+    ∙ ap (flat_map (block_clauses m)) (range-append 1 (b - 1) (n + k))
     ∙ each_append (block_clauses m) (range 1 (b - 1)) (range (1 + (b - 1)) (n + k))
     ∙ ap (λ (j : ℕ). run-clauses m 1 (b - 1) ++ run-clauses m j (n + k)) f
     ∙ ap (λ (t : List (List Literal)). run-clauses m 1 (b - 1) ++ t)
-    (ap (each (block_clauses m)) (range-append b n k) ∙ each_append (block_clauses m) (range b n) (range (b + n) k))
+    (ap (flat_map (block_clauses m)) (range-append b n k) ∙ each_append (block_clauses m) (range b n) (range (b + n) k))
 
 to_small : (v : ℕ) → v < 100000 → (cs : List (List Literal)) → All (All (In 1 (suc v))) cs → All (All Small) cs
 to_small v h cs t = all-imp (All (In 1 (suc v))) (All Small) (λ c u. all-imp (In 1 (suc v)) Small (λ l w. record { some = w.0; few = let x = w.1 in omega arith }) c u) cs t
@@ -70,9 +71,9 @@ module _ (m : Model) (q : Settled m) (b room : ℕ) (h : 1 ≤ b) (l : b ≤ blo
       record {
         is = blocks_text m b n h;
         small = to_small (variable_count m) (omega (arith, variables-bound m q)) r (all_left P r w (all_right P p (r ++ w) (subst (All P) s (variables-in m q))));
-        true = and_left (every (clause_true a) r) (every (clause_true a) w)
+        true = and_left (list_all (clause_true a) r) (list_all (clause_true a) w)
             (subst T (every_append (clause_true a) r w)
-            (and_right (every (clause_true a) p) (every (clause_true a) (r ++ w)) (subst T (ap (every (clause_true a)) s ∙ every_append (clause_true a) p (r ++ w)) t)));
+            (and_right (list_all (clause_true a) p) (list_all (clause_true a) (r ++ w)) (subst T (ap (list_all (clause_true a)) s ∙ every_append (clause_true a) p (r ++ w)) t)));
       }
 
 -- a settled model's last block

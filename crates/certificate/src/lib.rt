@@ -10,7 +10,7 @@ ghost use Rattle.certificate.specs.NoDraw.{NoDraw, opening_of, opening_refusal, 
 use loading::Loaded;
 use lrat::Reader;
 use model::Model;
-use refutation::State;
+use refutation::{Reason, State};
 
 // What is known before the certificate is read.
 #[derive(Clone, Copy)]
@@ -37,19 +37,14 @@ pub struct Standing {
     pub reader: Reader,
 }
 
-impl Standing {
-    // the reason not to certify where the certificate ends before the empty clause
-    pub const ENDS_EARLY: u32 = 12;
-}
-
 // ---- the clauses
 
 fn not_loaded(l: Loaded) -> Loaded
     ensures { (a : List Bool) (store index marks : List ℕ) → Holds a l.state store index marks → Holds a result.state store index marks }
 {
     let s = l.state;
-    let state = refutation::refuse(s, Loaded::NO_ROOM_FOR_A_BLOCK);
-    Loaded { state, id: l.id }
+    let state = refutation::refuse(s, Reason::NoRoomForABlock);
+    Loaded { state, ..l }
 }
 
 // The clauses of a model's blocks from b on, by way of their text.
@@ -104,7 +99,7 @@ fn closed(opening: Opening) -> Standing
     ensures { result.opening ≡ opening }
 {
     let state = State {
-        refusal: 0,
+        refusal: None,
         refuted: false,
         proved: false,
         id: 0,
@@ -190,10 +185,8 @@ fn judged(r: Reader) -> Verdict
     if s.refuted {
         return Verdict::Certified;
     }
-    if s.refusal != 0 {
-        return Verdict::NotCertified(s.refusal, r.line);
-    }
-    Verdict::NotCertified(Standing::ENDS_EARLY, r.line)
+    let reason = s.refusal.unwrap_or(Reason::EndsEarly);
+    Verdict::NotCertified(reason.number(), r.line)
 }
 
 // The whole at once.
@@ -218,12 +211,7 @@ fn judge(
 fn is_open(v: Verdict) -> bool
     ensures { result ≡ is_open (opening_in v) }
 {
-    match v {
-        Verdict::Refused(refusal, line) => false,
-        Verdict::SettledOut => false,
-        Verdict::Certified => true,
-        Verdict::NotCertified(reason, line) => true,
-    }
+    matches!(v, Verdict::Certified | Verdict::NotCertified(_, _))
 }
 
 fn clear(text: &mut [u8], store: &mut [u32], index: &mut [u32], marks: &mut [u32])

@@ -23,7 +23,7 @@ const LITERALS: usize = 2 * Model::VARIABLES + 2;
 // Some blocks of the listing at a time.
 const TEXT: usize = 131072;
 
-// The whole certificate. A proved loop has to end: its turns are counted down from a number that no run uses up.
+// The whole certificate. A proved loop has to end: no run takes as many turns.
 fn read_certificate(
     input: Stdin,
     s: Standing,
@@ -35,15 +35,12 @@ fn read_certificate(
 {
     let mut piece = console::large_buffer();
     let mut t = s;
-    let mut turns = u64::MAX;
-    while turns > 0 {
+    for _turn in 0..u64::MAX {
         let n = console::read_piece(input, &mut piece);
         if n == 0 {
             break;
         }
-        let next = certificate::feed(t, &piece[..n], store, index, marks);
-        t = next;
-        turns -= 1;
+        t = certificate::feed(t, &piece[..n], store, index, marks);
     }
     t
 }
@@ -108,10 +105,8 @@ fn main(rt: HostRuntime) {
         err: rt.stderr(),
     };
     let mut space = console::sheet_room();
-    let opened = console::open_sheet(&rt, to.err, 1, Notice::Sheet, &mut space);
-    if !opened.good {
+    let Some(n) = console::open_sheet(&rt, to.err, 1, Notice::Sheet, &mut space) else {
         return;
-    }
-    let n = opened.length;
+    };
     console::print(to, with_memory(rt.stdin(), &space[..n]));
 }

@@ -1,4 +1,3 @@
 pub mod Places
 pub mod Outside
 pub mod Walks
-pub mod Clauses

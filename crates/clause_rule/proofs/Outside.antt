@@ -7,13 +7,13 @@ use mathlib.Core.List.{List, [], ◌∷◌, ◌++◌}
 use lib.Bits.{bit_and, bit_or}
 use Rattle.model.specs.Words.{less, bit}
 use Rattle.model.proofs.Words.{bit_le, bit-zero, bit-and, bit-or, bit-less, bit_ext}
-use Rattle.clause_rule.specs.Sets.{outside, in_one_at_most}
+use Rattle.clause_rule.specs.Union.{outside, in_one_at_most}
 
 pub outside-append : (w : ℕ) (ps qs : List ℕ) → outside w (ps ++ qs) ≡ outside (outside w ps) qs
 outside-append w [] qs = refl
 outside-append w (p ∷ ps) qs = outside-append (less w p) ps qs
 
-one-append : (none one : ℕ) (ps qs : List ℕ) → in_one_at_most none one (ps ++ qs) ≡ in_one_at_most (outside none ps) (in_one_at_most none one ps) qs
+pub one-append : (none one : ℕ) (ps qs : List ℕ) → in_one_at_most none one (ps ++ qs) ≡ in_one_at_most (outside none ps) (in_one_at_most none one ps) qs
 one-append none one [] qs = refl
 one-append none one (p ∷ ps) qs = one-append (less none p) (bit_or none (less one p)) ps qs
 

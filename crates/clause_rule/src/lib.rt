@@ -1,184 +1,118 @@
 // The clauses of a constraint, document 01's line rule: where all other literals are settled false, this one is made true, for all entrants at once.
-// On two arrays of the table, the fixed and the possible entrants of each group. Total: a member that is not there is group 0, a group that is not there has nobody.
+// Total: a member that is not there is group 0, a group that is not there has nobody.
 #![tactic(auto)]
 
-ghost use Rattle.std.specs.Prelude.{◌≡◌, List, [], ◌∷◌, map, ℕ, ◌-◌, length, get_or};
+ghost use Rattle.std.specs.Prelude.{◌≡◌, [], ◌∷◌, map, get_or};
 ghost use Rattle.model.specs.declared.Literal.TheVariants.{Pos, Neg};
-ghost use Rattle.model.specs.Limits.{limits};
 ghost use Rattle.model.specs.Lists.{range};
+ghost use Rattle.model.specs.Model.{group_at};
 ghost use Rattle.model.specs.Clauses.{of_group, union_clauses, rule_clauses, clauses_of};
-ghost use Rattle.model.specs.Propagate.{made_true, literal_rule, clause_rule, run};
-ghost use Rattle.clause_rule.specs.Sets.{Acts, Settles, AllFalse, long_clause, words_of, outside, in_one_at_most, constraint_of};
+ghost use Rattle.model.specs.Propagate.{false_in, made_true, literal_rule, clause_rule, run};
+ghost use Rattle.clause_rule.specs.Union.{long_clause, words_of, outside, in_one_at_most};
 
-use model::{Literal, Model, without};
+use model::{Constraint, Group, Literal, Model, without};
+use table::Table;
 
 // ---- a member's group
 
-// The arrays have the lengths of their types.
-fn sized(words: [u64; Model::GROUPS])
-    ensures { length words ≡ limits.groups }
-{}
-
-fn members(ids: [u32; Model::MEMBERS])
-    ensures { length ids ≡ limits.members }
-{}
-
-// Where group g stands.
-fn place_of(g: u32) -> usize
-    ensures { result ≡ g - 1 }
+// Its number; 0 where there is no such member.
+fn id(ids: &[u32; Model::MEMBERS], m: u32) -> u32
+    ensures { result ≡ get_or ids.now m 0 }
 {
-    if g == 0 {
-        return 0;
-    }
-    g as usize - 1
-}
-
-// Where the group of member m stands.
-fn place(ids: &[u32; Model::MEMBERS], m: u32) -> usize
-    ensures { result ≡ get_or ids.now m 0 - 1 }
-{
-    let l = *ids;
-    members(l);
     let i = m as usize;
-    if Model::MEMBERS <= i {
-        return 0;
-    }
-    place_of(ids[i])
-}
-
-// The word of member m's group; nobody where there is no such group.
-pub fn word_of(words: &[u64; Model::GROUPS], ids: &[u32; Model::MEMBERS], m: u32) -> u64
-    ensures { (length words.now ≡ limits.groups) × (result ≡ get_or words.now (get_or ids.now m 0 - 1) 0) }
-{
-    let l = *words;
-    sized(l);
-    let i = place(ids, m);
-    if i < Model::GROUPS {
-        return words[i];
+    if i < Model::MEMBERS {
+        return ids[i];
     }
     0
+}
+
+// The group of member m; one without entrants where there is no such group.
+pub fn member(t: &Table, ids: &[u32; Model::MEMBERS], m: u32) -> Group
+    ensures { result ≡ group_at t.now (get_or ids.now m 0) }
+{
+    table::group_at(t, id(ids, m))
 }
 
 // ---- a literal
 
 // The entrants of w for whom a literal is settled false.
-fn literal_false(
-    fixed: &[u64; Model::GROUPS],
-    possible: &[u64; Model::GROUPS],
-    ids: &[u32; Model::MEMBERS],
-    l: Literal,
-    w: u64,
-) -> u64
-    ensures { AllFalse result fixed.now possible.now w (of_group ids.now l ∷ []) }
+#[tactic(auto, unfolding(model::specs::Clauses::of_group, model::specs::Propagate::false_in))]
+fn literal_false(t: &Table, ids: &[u32; Model::MEMBERS], l: Literal, w: u64) -> u64
+    ensures { result ≡ false_in t.now w (of_group ids.now l) }
 {
     match l {
-        Literal::Pos(m) => without(w, word_of(possible, ids, m)),
-        Literal::Neg(m) => w & word_of(fixed, ids, m),
+        Literal::Pos(m) => without(w, member(t, ids, m).possible),
+        Literal::Neg(m) => w & member(t, ids, m).fixed,
     }
 }
 
 // The entrants of w are fixed in the group of member m.
-fn fix(fixed: &mut [u64; Model::GROUPS], ids: &[u32; Model::MEMBERS], m: u32, w: u64)
-    ensures { (p : List ℕ) → Acts (made_true (Pos (get_or ids.now m 0)) w) fixed.old p fixed.new p }
+fn fix(t: &mut Table, ids: &[u32; Model::MEMBERS], m: u32, w: u64)
+    ensures { t.new ≡ made_true (Pos (get_or ids.now m 0)) w t.old }
 {
-    let l = *fixed;
-    sized(l);
-    let i = place(ids, m);
+    let i = id(ids, m).saturating_sub(1) as usize;
     if i < Model::GROUPS {
-        fixed[i] = fixed[i] | w;
+        t[i].fixed |= w;
     }
 }
 
 // They are not possible there any more.
-fn bar(possible: &mut [u64; Model::GROUPS], ids: &[u32; Model::MEMBERS], m: u32, w: u64)
-    ensures { (f : List ℕ) → Acts (made_true (Neg (get_or ids.now m 0)) w) f possible.old f possible.new }
+fn bar(t: &mut Table, ids: &[u32; Model::MEMBERS], m: u32, w: u64)
+    ensures { t.new ≡ made_true (Neg (get_or ids.now m 0)) w t.old }
 {
-    let l = *possible;
-    sized(l);
-    let i = place(ids, m);
+    let i = id(ids, m).saturating_sub(1) as usize;
     if i < Model::GROUPS {
-        possible[i] = without(possible[i], w);
+        t[i].possible = without(t[i].possible, w);
     }
 }
 
 // A literal made true for the entrants of w.
-fn make_true(
-    fixed: &mut [u64; Model::GROUPS],
-    possible: &mut [u64; Model::GROUPS],
-    ids: &[u32; Model::MEMBERS],
-    l: Literal,
-    w: u64,
-)
-    ensures { Acts (made_true (of_group ids.now l) w) fixed.old possible.old fixed.new possible.new }
+#[tactic(auto, unfolding(model::specs::Clauses::of_group))]
+fn make_true(t: &mut Table, ids: &[u32; Model::MEMBERS], l: Literal, w: u64)
+    ensures { t.new ≡ made_true (of_group ids.now l) w t.old }
 {
     match l {
-        Literal::Pos(m) => fix(fixed, ids, m, w),
-        Literal::Neg(m) => bar(possible, ids, m, w),
+        Literal::Pos(m) => fix(t, ids, m, w),
+        Literal::Neg(m) => bar(t, ids, m, w),
     }
 }
 
 // ---- clauses of two and of three
 
-// Where the other literal is settled false, for entrants of w, this one is made true.
-fn opposite(
-    fixed: &mut [u64; Model::GROUPS],
-    possible: &mut [u64; Model::GROUPS],
-    ids: &[u32; Model::MEMBERS],
-    w: u64,
-    l: Literal,
-    other: Literal,
-)
-    ensures { Acts (literal_rule w (of_group ids.now l) (of_group ids.now other ∷ [])) fixed.old possible.old fixed.new possible.new }
+// Where the other literals are settled false, for entrants of w, this one is made true.
+#[tactic(auto, unfolding(model::specs::Propagate::literal_rule, model::specs::Propagate::all_false))]
+fn literal_rule(t: &mut Table, ids: &[u32; Model::MEMBERS], w: u64, l: Literal, others: &[Literal])
+    ensures { t.new ≡ literal_rule w (of_group ids.now l) (map (of_group ids.now) others.now) t.old }
 {
-    let v = literal_false(fixed, possible, ids, other, w);
-    make_true(fixed, possible, ids, l, v);
+    let mut v = w;
+    for x in others {
+        v = literal_false(t, ids, *x, v);
+    }
+    make_true(t, ids, l, v);
 }
 
-// Where both others are settled false, for entrants of w, this literal is made true.
-fn third(
-    fixed: &mut [u64; Model::GROUPS],
-    possible: &mut [u64; Model::GROUPS],
-    ids: &[u32; Model::MEMBERS],
-    w: u64,
-    l: Literal,
-    x: Literal,
-    y: Literal,
-)
-    ensures { Acts (literal_rule w (of_group ids.now l) (of_group ids.now x ∷ of_group ids.now y ∷ [])) fixed.old possible.old fixed.new possible.new }
+#[tactic(auto, unfolding(model::specs::Propagate::clause_rule, model::specs::Propagate::clause_rules))]
+fn pair_rule(t: &mut Table, ids: &[u32; Model::MEMBERS], w: u64, x: Literal, y: Literal)
+    ensures { t.new ≡ clause_rule w (of_group ids.now x ∷ of_group ids.now y ∷ []) t.old }
 {
-    let v = literal_false(fixed, possible, ids, x, w);
-    let u = literal_false(fixed, possible, ids, y, v);
-    make_true(fixed, possible, ids, l, u);
+    literal_rule(t, ids, w, x, &[y]);
+    literal_rule(t, ids, w, y, &[x]);
 }
 
-fn pair_rule(
-    fixed: &mut [u64; Model::GROUPS],
-    possible: &mut [u64; Model::GROUPS],
-    ids: &[u32; Model::MEMBERS],
-    w: u64,
-    x: Literal,
-    y: Literal,
-)
-    ensures { Acts (clause_rule w (of_group ids.now x ∷ of_group ids.now y ∷ [])) fixed.old possible.old fixed.new possible.new }
-{
-    opposite(fixed, possible, ids, w, x, y);
-    opposite(fixed, possible, ids, w, y, x);
-}
-
+#[tactic(auto, unfolding(model::specs::Propagate::clause_rule, model::specs::Propagate::clause_rules))]
 fn triple_rule(
-    fixed: &mut [u64; Model::GROUPS],
-    possible: &mut [u64; Model::GROUPS],
+    t: &mut Table,
     ids: &[u32; Model::MEMBERS],
     w: u64,
     x: Literal,
     y: Literal,
     z: Literal,
 )
-    ensures { Acts (clause_rule w (of_group ids.now x ∷ of_group ids.now y ∷ of_group ids.now z ∷ [])) fixed.old possible.old fixed.new possible.new }
+    ensures { t.new ≡ clause_rule w (of_group ids.now x ∷ of_group ids.now y ∷ of_group ids.now z ∷ []) t.old }
 {
-    third(fixed, possible, ids, w, x, y, z);
-    third(fixed, possible, ids, w, y, x, z);
-    third(fixed, possible, ids, w, z, x, y);
+    literal_rule(t, ids, w, x, &[y, z]);
+    literal_rule(t, ids, w, y, &[x, z]);
+    literal_rule(t, ids, w, z, &[x, y]);
 }
 
 // ---- the clauses of a union, F1 .. Fk -H and then -Fi H
@@ -190,15 +124,13 @@ struct Counted {
     one: u64,
 }
 
-fn few(possible: &[u64; Model::GROUPS], ids: &[u32; Model::MEMBERS], w: u64, k: u32) -> Counted
-    ensures { (result.none ≡ outside w (words_of possible.now ids.now (range 1 k))) × (result.one ≡ in_one_at_most w w (words_of possible.now ids.now (range 1 k))) }
+fn few(t: &Table, ids: &[u32; Model::MEMBERS], w: u64, k: u32) -> Counted
+    ensures { (result.none ≡ outside w (words_of t.now ids.now (range 1 k))) × (result.one ≡ in_one_at_most w w (words_of t.now ids.now (range 1 k))) }
 {
     let mut none = w;
     let mut one = w;
-    let mut i: u32 = 0;
-    while i < k {
-        i += 1;
-        let p = word_of(possible, ids, i);
+    for i in 0..k {
+        let p = member(t, ids, i + 1).possible;
         one = none | without(one, p);
         none = without(none, p);
         if none | one == 0 {
@@ -209,141 +141,78 @@ fn few(possible: &[u64; Model::GROUPS], ids: &[u32; Model::MEMBERS], w: u64, k: 
 }
 
 // The long clause: one walk to see for whom all others may be settled false, and only for those a second, which makes F1 .. Fk and then -H true.
-fn long_rule(
-    fixed: &mut [u64; Model::GROUPS],
-    possible: &mut [u64; Model::GROUPS],
-    ids: &[u32; Model::MEMBERS],
-    w: u64,
-    k: u32,
-)
-    ensures { Acts (clause_rule w (map (of_group ids.now) (long_clause k))) fixed.old possible.old fixed.new possible.new }
+fn long_rule(t: &mut Table, ids: &[u32; Model::MEMBERS], w: u64, k: u32)
+    ensures { t.new ≡ clause_rule w (map (of_group ids.now) (long_clause k)) t.old }
 {
-    let a = *fixed;
-    sized(a);
-    let b = *possible;
-    sized(b);
-    let f = few(possible, ids, w, k);
+    let f = few(t, ids, w, k);
     if f.none | f.one == 0 {
         return;
     }
-    let mut i: u32 = 0;
-    while i < k {
-        i += 1;
-        let v = f.none | f.one & word_of(possible, ids, i);
-        let h = word_of(fixed, ids, 0);
-        fix(fixed, ids, i, v & h);
+    for i in 0..k {
+        let v = f.none | f.one & member(t, ids, i + 1).possible;
+        let h = member(t, ids, 0).fixed;
+        fix(t, ids, i + 1, v & h);
     }
-    bar(possible, ids, 0, f.none);
+    bar(t, ids, 0, f.none);
 }
 
-fn union_rules(
-    fixed: &mut [u64; Model::GROUPS],
-    possible: &mut [u64; Model::GROUPS],
-    ids: &[u32; Model::MEMBERS],
-    w: u64,
-    k: u32,
-)
-    ensures { Acts (run (map (clause_rule w) (map (map (of_group ids.now)) (union_clauses k)))) fixed.old possible.old fixed.new possible.new }
+fn union_rules(t: &mut Table, ids: &[u32; Model::MEMBERS], w: u64, k: u32)
+    ensures { t.new ≡ run (map (clause_rule w) (map (map (of_group ids.now)) (union_clauses k))) t.old }
 {
-    long_rule(fixed, possible, ids, w, k);
-    let mut i: u32 = 0;
-    while i < k {
-        i += 1;
-        pair_rule(fixed, possible, ids, w, Literal::Neg(i), Literal::Pos(0));
+    long_rule(t, ids, w, k);
+    for i in 0..k {
+        pair_rule(t, ids, w, Literal::Neg(i + 1), Literal::Pos(0));
     }
 }
 
 // ---- the clauses of a constraint
 
 // Of every code but 6.
-fn short_rules(
-    fixed: &mut [u64; Model::GROUPS],
-    possible: &mut [u64; Model::GROUPS],
-    ids: &[u32; Model::MEMBERS],
-    w: u64,
-    code: u32,
-)
+#[tactic(auto, unfolding(model::specs::Clauses::rule_clauses, model::specs::Clauses::member_clauses, model::specs::Clauses::short_clauses))]
+fn short_rules(t: &mut Table, ids: &[u32; Model::MEMBERS], w: u64, code: u32)
     requires { code ≡ 6 → ⊥ }
-    ensures { Acts (run (map (clause_rule w) (map (map (of_group ids.now)) (rule_clauses code 0)))) fixed.old possible.old fixed.new possible.new }
+    ensures { t.new ≡ run (map (clause_rule w) (map (map (of_group ids.now)) (rule_clauses code 0))) t.old }
 {
-    if code == 1 {
-        pair_rule(fixed, possible, ids, w, Literal::Neg(0), Literal::Pos(1));
-        pair_rule(fixed, possible, ids, w, Literal::Pos(0), Literal::Neg(1));
-        return;
-    }
-    if code == 2 {
-        pair_rule(fixed, possible, ids, w, Literal::Neg(0), Literal::Pos(1));
-        return;
-    }
-    if code == 3 {
-        triple_rule(
-            fixed,
-            possible,
-            ids,
-            w,
-            Literal::Neg(1),
-            Literal::Neg(2),
-            Literal::Pos(0),
-        );
-        pair_rule(fixed, possible, ids, w, Literal::Pos(1), Literal::Neg(0));
-        pair_rule(fixed, possible, ids, w, Literal::Pos(2), Literal::Neg(0));
-        return;
-    }
-    if code == 4 {
-        triple_rule(
-            fixed,
-            possible,
-            ids,
-            w,
-            Literal::Pos(1),
-            Literal::Pos(2),
-            Literal::Neg(0),
-        );
-        pair_rule(fixed, possible, ids, w, Literal::Neg(1), Literal::Pos(0));
-        pair_rule(fixed, possible, ids, w, Literal::Neg(2), Literal::Pos(0));
-        return;
-    }
-    if code == 5 {
-        triple_rule(
-            fixed,
-            possible,
-            ids,
-            w,
-            Literal::Neg(1),
-            Literal::Pos(2),
-            Literal::Pos(0),
-        );
-        pair_rule(fixed, possible, ids, w, Literal::Pos(1), Literal::Neg(0));
-        pair_rule(fixed, possible, ids, w, Literal::Neg(2), Literal::Neg(0));
-        return;
-    }
-    if code == 7 {
-        pair_rule(fixed, possible, ids, w, Literal::Neg(0), Literal::Neg(1));
-        pair_rule(fixed, possible, ids, w, Literal::Pos(0), Literal::Pos(1));
+    match code {
+        1 => {
+            pair_rule(t, ids, w, Literal::Neg(0), Literal::Pos(1));
+            pair_rule(t, ids, w, Literal::Pos(0), Literal::Neg(1));
+        }
+        2 => pair_rule(t, ids, w, Literal::Neg(0), Literal::Pos(1)),
+        3 => {
+            triple_rule(t, ids, w, Literal::Neg(1), Literal::Neg(2), Literal::Pos(0));
+            pair_rule(t, ids, w, Literal::Pos(1), Literal::Neg(0));
+            pair_rule(t, ids, w, Literal::Pos(2), Literal::Neg(0));
+        }
+        4 => {
+            triple_rule(t, ids, w, Literal::Pos(1), Literal::Pos(2), Literal::Neg(0));
+            pair_rule(t, ids, w, Literal::Neg(1), Literal::Pos(0));
+            pair_rule(t, ids, w, Literal::Neg(2), Literal::Pos(0));
+        }
+        5 => {
+            triple_rule(t, ids, w, Literal::Neg(1), Literal::Pos(2), Literal::Pos(0));
+            pair_rule(t, ids, w, Literal::Pos(1), Literal::Neg(0));
+            pair_rule(t, ids, w, Literal::Neg(2), Literal::Neg(0));
+        }
+        7 => {
+            pair_rule(t, ids, w, Literal::Neg(0), Literal::Neg(1));
+            pair_rule(t, ids, w, Literal::Pos(0), Literal::Pos(1));
+        }
+        _ => {}
     }
 }
 
 // In order, for the entrants of w.
-pub fn applied(
-    fixed: &mut [u64; Model::GROUPS],
-    possible: &mut [u64; Model::GROUPS],
-    ids: &[u32; Model::MEMBERS],
-    w: u64,
-    code: u32,
-    k: u32,
-)
-    ensures { Settles (run (map (clause_rule w) (clauses_of (constraint_of code k ids.now)))) fixed.old possible.old fixed.new possible.new }
+#[tactic(auto, using(crate::proofs::Walks::none_clauses), unfolding(model::specs::Clauses::clauses_of, model::specs::Clauses::rule_clauses, model::specs::Clauses::member_clauses))]
+pub fn applied(t: &mut Table, c: &Constraint, w: u64)
+    ensures { t.new ≡ run (map (clause_rule w) (clauses_of c.now)) t.old }
 {
-    let f = *fixed;
-    sized(f);
-    let p = *possible;
-    sized(p);
     if w == 0 {
         return;
     }
-    if code == 6 {
-        union_rules(fixed, possible, ids, w, k);
+    if c.code == 6 {
+        union_rules(t, &c.groups, w, c.count);
         return;
     }
-    short_rules(fixed, possible, ids, w, code);
+    short_rules(t, &c.groups, w, c.code);
 }

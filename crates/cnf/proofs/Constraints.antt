@@ -10,7 +10,8 @@ use lib.ListN.{length, take, length-append}
 use Rattle.model.specs.declared.Literal.TheVariants.{Pos}
 use Rattle.model.specs.declared.Group.{Group}
 use Rattle.model.specs.declared.Constraint.{Constraint}
-use Rattle.model.specs.Lists.{each, range}
+use Rattle.std.specs.List.{flat_map}
+use Rattle.model.specs.Lists.{range}
 use Rattle.model.specs.Limits.{limits}
 use Rattle.model.specs.Words.{size}
 use Rattle.model.specs.Clauses.{by_entrant, member_clauses}
@@ -42,42 +43,42 @@ counted t c o q = ap ones q ∙ sym (size-ones (differing t c))
 -- the entrants' clauses of a constraint, but for a code 7 line's last
 module _ (x : ℕ) (t : List Group) (c : Constraint) (ms : List Member) (k : ℕ) (says : Saying x t c ms k) (clear : is_apart t c ≡ false)
     (w : MembersBelow k c.code c.count) where
-  pub entrants-text : (n : ℕ) → n ≤ limits.entrants → each clause_text (each (clauses_at x t c) (range 0 n)) ≡ constraint_text ms c.code c.count n
+  pub entrants-text : (n : ℕ) → n ≤ limits.entrants → flat_map clause_text (flat_map (clauses_at x t c) (range 0 n)) ≡ constraint_text ms c.code c.count n
   unfolding constraint_text entrant_text kept_text
   entrants-text n h =
       each-each clause_text (clauses_at x t c) (range 0 n)
-      ∙ each-range_ext (λ e. each clause_text (clauses_at x t c e)) (λ e. entrant_text (map (member_number e) ms) c.code c.count) 0 n
-      (λ e _ l. ap (each clause_text) (entrant-is x t c ms k says clear w e (omega arith)) ∙ each-each clause_text _ (range 0 (length (member_clauses c.code c.count))))
+      ∙ each-range_ext (λ e. flat_map clause_text (clauses_at x t c e)) (λ e. entrant_text (map (member_number e) ms) c.code c.count) 0 n
+      (λ e _ l. ap (flat_map clause_text) (entrant-is x t c ms k says clear w e (omega arith)) ∙ each-each clause_text _ (range 0 (length (member_clauses c.code c.count))))
 
-module _ (x : ℕ) (t : List Group) (c : Constraint) (n : ℕ) (text : List ℕ) (e : each clause_text (each (clauses_at x t c) (range 0 n)) ≡ text) where
-  whole-text : each clause_text (constraint_clauses n t x c) ≡ text ++ each clause_text (last_clause n x t c)
+module _ (x : ℕ) (t : List Group) (c : Constraint) (n : ℕ) (text : List ℕ) (e : flat_map clause_text (flat_map (clauses_at x t c) (range 0 n)) ≡ text) where
+  whole-text : flat_map clause_text (constraint_clauses n t x c) ≡ text ++ flat_map clause_text (last_clause n x t c)
   unfolding constraint_clauses
-  whole-text = each_append clause_text (each (clauses_at x t c) (range 0 n)) (last_clause n x t c) ∙ ap (λ (l : List ℕ). l ++ each clause_text (last_clause n x t c)) e
+  whole-text = each_append clause_text (flat_map (clauses_at x t c) (range 0 n)) (last_clause n x t c) ∙ ap (λ (l : List ℕ). l ++ flat_map clause_text (last_clause n x t c)) e
 
-  pub six-text : T (by_entrant c.code) → each clause_text (constraint_clauses n t x c) ≡ text
-  six-text six = whole-text ∙ ap (λ l. text ++ each clause_text l) (six-last t c six n x) ∙ append-nil text
+  pub six-text : T (by_entrant c.code) → flat_map clause_text (constraint_clauses n t x c) ≡ text
+  six-text six = whole-text ∙ ap (λ l. text ++ flat_map clause_text l) (six-last t c six n x) ∙ append-nil text
 
   -- code 7: the last clause is of all X
   pub seven-text : c.code ≡ 7 → All (SettledAmong n) t → is_apart t c ≡ false → (o : ℕ) → o ≡ differing t c
-      → each clause_text (constraint_clauses n t x c) ≡ text ++ clause_text (map Pos (range x (ones o)))
+      → flat_map clause_text (constraint_clauses n t x c) ≡ text ++ clause_text (map Pos (range x (ones o)))
   unfolding difference_count
   seven-text seven s clear o q =
       whole-text
-      ∙ ap (λ l. text ++ each clause_text l) (last-is n x t s c (is_open t c seven clear))
+      ∙ ap (λ l. text ++ flat_map clause_text l) (last-is n x t s c (is_open t c seven clear))
       ∙ ap (λ (l : List ℕ). text ++ l) (append-nil (clause_text (map Pos (range x (size (differing t c))))))
       ∙ ap (λ (k : ℕ). text ++ clause_text (map Pos (range x k))) (sym (counted t c o q))
 
   pub seven-size : c.code ≡ 7 → All (SettledAmong n) t → is_apart t c ≡ false → (o : ℕ) → o ≡ differing t c
-      → length (each clause_text (constraint_clauses n t x c)) ≡ length text + length (clause_text (map Pos (range x (ones o))))
+      → length (flat_map clause_text (constraint_clauses n t x c)) ≡ length text + length (clause_text (map Pos (range x (ones o))))
   seven-size seven s clear o q = ap length (seven-text seven s clear o q) ∙ length-append text (clause_text (map Pos (range x (ones o))))
 
-pub apart-text : (x : ℕ) (t : List Group) (c : Constraint) (n : ℕ) → c.code ≡ 7 → is_apart t c ≡ true → each clause_text (constraint_clauses n t x c) ≡ []
-apart-text x t c n seven e = ap (each clause_text) (apart-clauses t c seven e n x)
+pub apart-text : (x : ℕ) (t : List Group) (c : Constraint) (n : ℕ) → c.code ≡ 7 → is_apart t c ≡ true → flat_map clause_text (constraint_clauses n t x c) ≡ []
+apart-text x t c n seven e = ap (flat_map clause_text) (apart-clauses t c seven e n x)
 
 -- the clause of the variables from x on, literal by literal
-pub rising-text : (x k : ℕ) → clause_text (map Pos (range x k)) ≡ each (λ v. literal_text (Pos v)) (range x k) ++ (48 ∷ 10 ∷ [])
+pub rising-text : (x k : ℕ) → clause_text (map Pos (range x k)) ≡ flat_map (λ v. literal_text (Pos v)) (range x k) ++ (48 ∷ 10 ∷ [])
 unfolding clause_text
 rising-text x k = ap (λ (l : List ℕ). l ++ (48 ∷ 10 ∷ [])) (each_map literal_text Pos (range x k))
 
-pub rising-length : (x k : ℕ) → length (clause_text (map Pos (range x k))) ≡ length (each (λ v. literal_text (Pos v)) (range x k)) + 2
-rising-length x k = ap length (rising-text x k) ∙ length-append (each (λ v. literal_text (Pos v)) (range x k)) (48 ∷ 10 ∷ [])
+pub rising-length : (x k : ℕ) → length (clause_text (map Pos (range x k))) ≡ length (flat_map (λ v. literal_text (Pos v)) (range x k)) + 2
+rising-length x k = ap length (rising-text x k) ∙ length-append (flat_map (λ v. literal_text (Pos v)) (range x k)) (48 ∷ 10 ∷ [])

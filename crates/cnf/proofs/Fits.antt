@@ -6,7 +6,8 @@ use native.Mathlib.Omega.{arith}
 use native.Mathlib.Decide.{dec_le}
 use borrow.Author.Tests.{le-leb, lt-leb}
 use lib.ListN.{length, length-append}
-use Rattle.model.specs.Lists.{each, range}
+use Rattle.std.specs.List.{flat_map}
+use Rattle.model.specs.Lists.{range}
 use Rattle.model.proofs.Lists.{each_append, each-range_ext, range-append}
 use Rattle.text.specs.Put.{Wrote}
 use Rattle.text.proofs.Writes.{done, kept, then, same_text}
@@ -14,7 +15,7 @@ use Rattle.cnf.specs.Run.{fit_count, Ran}
 
 module _ (f : ℕ → List ℕ) where
   abbrev texts : ℕ → ℕ → List ℕ
-  texts x n = each f (range x n)
+  texts x n = flat_map f (range x n)
 
   -- ---- how many fit
 
@@ -142,7 +143,7 @@ module _ (f : ℕ → List ℕ) where
           let s : fit_count f (j + k) x (length xs - at) ≡ j + i =
           fit_all j k x (length xs - at) all ∙ ap₂ (λ (p q : ℕ). j + fit_count f k p q) (sym h) r in
           let t : texts x j ++ texts y i ≡ texts x (j + i) =
-          ap (λ (p : ℕ). texts x j ++ texts p i) h ∙ sym (ap (each f) (range-append x j i) ∙ each_append f (range x j) (range (x + j) i)) in
+          ap (λ (p : ℕ). texts x j ++ texts p i) h ∙ sym (ap (flat_map f) (range-append x j i) ∙ each_append f (range x j) (range (x + j) i)) in
           rw (← e) (record { next = omega (arith, s, v.next); wrote = rw s (same_text t (then w v.wrote)) })
 
 -- ---- of texts that are the same

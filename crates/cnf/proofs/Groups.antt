@@ -6,7 +6,7 @@ use Prim.Native.Nat.{ℕ, ◌+◌, ◌-◌, ◌≤◌, ◌<◌}
 use native.Mathlib.Omega.{arith}
 use lib.ListN.{length, get_or}
 use Rattle.model.specs.declared.Group.{Group}
-use Rattle.model.specs.Lists.{each}
+use Rattle.std.specs.List.{flat_map}
 use Rattle.model.specs.Limits.{limits}
 use Rattle.model.specs.Totalizer.{totalizer_blocks, tree_output_count}
 use Rattle.model.specs.Cnf.{open_count, counted, outputs_of}
@@ -49,7 +49,7 @@ module _ (g : Group) (r : Totalizer) (e : r ≡ totalizer_of g) where
   pub units-ask : SettledAmong limits.entrants g → (r.low ≤ r.size) × (r.high ≤ r.size)
   units-ask s = let p = totalizer-parts g r e in (omega (arith, p.0, p.1, low-few g s), omega (arith, p.0, p.2, high-few g s))
 
-  pub block-text : (v o k : ℕ) → each clause_text (get_or (totalizer_blocks r.size v o r.low r.high) k []) ≡ group_block_text g v o k
+  pub block-text : (v o k : ℕ) → flat_map clause_text (get_or (totalizer_blocks r.size v o r.low r.high) k []) ≡ group_block_text g v o k
   unfolding group_block_text
   block-text v o k = let p = totalizer-parts g r e in rw (p.0, p.1, p.2)
 

@@ -1,21 +1,18 @@
 -- Laws of a node's three steps. Assumes nothing.
-use mathlib.Core.Path.{◌≡◌, refl, ap, sym, ◌∙◌}
+use mathlib.Core.Path.{◌≡◌, ap, ◌∙◌}
 use mathlib.Core.List.{List, ◌++◌, append-nil}
-use Prim.Native.Nat.{ℕ, zero, suc, ◌+◌, ◌-◌, ◌≤◌, ◌<◌}
+use Prim.Native.Nat.{ℕ, ◌+◌}
 use native.Mathlib.Numerals.{add-one}
-use native.Mathlib.Omega.{arith}
 use lib.ListN.{length, length-append}
 use Rattle.model.specs.declared.Literal.TheVariants.{Pos, Neg}
 use Rattle.model.specs.declared.Term.{Term}
-use Rattle.model.specs.declared.Term.TheVariants.{Fails, Open}
 use Rattle.model.specs.declared.Printed.{Printed}
 use Rattle.model.specs.declared.Node.{Node}
-use Rattle.model.specs.Totalizer.{keep, up, down, formed, output, node_terms, put_in, dropped}
+use Rattle.model.specs.Totalizer.{keep, up, down, formed, node_terms, put_in, dropped}
 use Rattle.model.specs.Text.{clause_text}
 use Rattle.model.proofs.Lists.{each-each}
 use Rattle.text.specs.Put.{kept_text}
 use Rattle.cnf.specs.Parts.{pair_text}
-use Rattle.encoding_laws.proofs.Node.{output_in, output-out}
 
 -- ---- formed: the code's index p + 1
 
@@ -27,14 +24,6 @@ unfolding formed down
 formed_by_one p q = rw (add-one p, add-one q, add-one (p + q))
 
 -- ---- put in: an output by its index
-
-pub output-at : (f m i : ℕ) → (i ≡ 0 → ⊥) → i ≤ m → Open (Pos (f + (i - 1))) ≡ output f m i
-output-at f m zero h k = absurd (h refl)
-output-at f m (suc i) h k = ap (λ (n : ℕ). Open (Pos (f + n))) (omega arith) ∙ sym (output_in f m i k)
-
-pub output-past : (f m i : ℕ) → m < i → Fails ≡ output f m i
-output-past f m zero h = absurd (omega arith)
-output-past f m (suc i) h = sym (output-out f m i (omega arith))
 
 -- ---- dropped: the texts of a clause and of both
 

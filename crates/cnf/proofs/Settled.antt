@@ -11,7 +11,8 @@ use lib.Seq.{get_or-take, take_all}
 use Rattle.model.specs.declared.Group.{Group}
 use Rattle.model.specs.declared.Constraint.{Constraint}
 use Rattle.model.specs.declared.Model.{Model}
-use Rattle.model.specs.Lists.{each, total, range}
+use Rattle.std.specs.List.{flat_map}
+use Rattle.model.specs.Lists.{total, range}
 use Rattle.model.specs.Limits.{limits}
 use Rattle.model.specs.Model.{zero_group, zero_constraint, group_at, table_of, constraints_of, constraint_in_range}
 use Rattle.model.specs.Propagate.{Settled}
@@ -41,7 +42,7 @@ module _ (m : Model) (q : Settled m) where
   abbrev table : List Group
   table = table_of m
 
-  body-text : (b : ℕ) → 1 ≤ b → block_text m b ≡ each clause_text (block_clauses m b)
+  body-text : (b : ℕ) → 1 ≤ b → block_text m b ≡ flat_map clause_text (block_clauses m b)
   unfolding block_text
   body-text zero h = absurd (omega arith)
   body-text (suc b) h = rw (eqb-suc-zero b)
@@ -83,7 +84,7 @@ module _ (m : Model) (q : Settled m) where
       let g = 1 + i in
       let e = (has-node (group_at table g) k l).0 in
       let is : get_or (group_blocks table g) k [] ≡ get_or (totalizer_blocks (open_count (group_at table g)) (first_variable table g) (first_output table g) (at_least (group_at table g)) (at_most (group_at table g))) k [] = rw e in
-      sym (body-text (first_block table g + k) (omega arith) ∙ ap (each clause_text) (group-block m q.sized g k (omega arith) (omega arith) l ∙ is))
+      sym (body-text (first_block table g + k) (omega arith) ∙ ap (flat_map clause_text) (group-block m q.sized g k (omega arith) (omega arith) l ∙ is))
 
   group-most : (i : ℕ) → i < m.s → (k : ℕ) → k < nodes_of (group_at table (1 + i))
       → length (group_block_text (group_at table (1 + i)) (first_variable table (1 + i)) (first_output table (1 + i)) k) ≤ most_bytes (open_count (group_at table (1 + i)))
@@ -91,7 +92,7 @@ module _ (m : Model) (q : Settled m) where
   group-most i h k l =
       let g = 1 + i in
       let e = (has-node (group_at table g) k l).0 in
-      let all = all_get_d (λ b. length (each clause_text b) ≤ most_bytes (open_count (group_at table g))) [] (omega arith) (group_blocks table g) (group-bytes m q g (omega arith) (omega arith)) k in
+      let all = all_get_d (λ b. length (flat_map clause_text b) ≤ most_bytes (open_count (group_at table g))) [] (omega arith) (group_blocks table g) (group-bytes m q g (omega arith) (omega arith)) k in
       rw e at all
 
   -- constraint j of the array, whatever stands for a missing one
@@ -110,7 +111,7 @@ module _ (m : Model) (q : Settled m) where
 
     -- its block, after those of the groups
     block-constraint : (j : ℕ) → j < m.c
-        → each clause_text (constraint_clauses m.n table (first_difference (1 + table_variables table) m (1 + j)) (get_or m.constraints j d))
+        → flat_map clause_text (constraint_clauses m.n table (first_difference (1 + table_variables table) m (1 + j)) (get_or m.constraints j d))
         ≡ block_text m (1 + length (node_blocks m) + j)
     unfolding line_clauses
     block-constraint j h =
@@ -118,7 +119,7 @@ module _ (m : Model) (q : Settled m) where
         let e : 1 + k + j - k ≡ 1 + j = omega arith in
         let f : 1 + j - 1 ≡ j = omega arith in
         sym (body-text (1 + k + j) (omega arith)
-        ∙ ap (each clause_text) (line-block m (1 + k + j) (omega arith) ∙ ap (line_clauses m) e
+        ∙ ap (flat_map clause_text) (line-block m (1 + k + j) (omega arith) ∙ ap (line_clauses m) e
         ∙ ap (λ (c : Constraint). constraint_clauses m.n table (first_difference (1 + table_variables table) m (1 + j)) c)
         (ap (λ (i : ℕ). get_or (constraints_of m) i zero_constraint) f ∙ constraint-is j h)))
 
@@ -197,9 +198,6 @@ module _ (m : Model) (q : Settled m) where
       node-there : b - get_or first i 0 < nodes_of (group_at table' (1 + i))
       node-there = omega (arith, before-next, blocks_end m q i h, first-at i few)
 
-      block-is : first_block table' (1 + i) + (b - get_or first i 0) ≡ b
-      block-is = omega (arith, first-at i few)
-
       module _ (v : Numbering) (n : v ≡ numbering_of m) where
         abbrev here : Group
         here = get_or m.groups i zero_group
@@ -262,13 +260,13 @@ module _ (m : Model) (q : Settled m) where
       unfolding table_of
       x-among = rw x-is (difference-among m q d (b - lines) place-in-model)
 
-      pub here-block : each clause_text (constraint_clauses m.n (take m.s m.groups) (get_or v.differences (b - lines) 0) (get_or m.constraints (b - lines) d))
+      pub here-block : flat_map clause_text (constraint_clauses m.n (take m.s m.groups) (get_or v.differences (b - lines) 0) (get_or m.constraints (b - lines) d))
           ≡ block_text m b
       unfolding table_of first_difference
       here-block =
           let i : b - lines ≡ 1 + (b - lines) - 1 = omega arith in
           let is : 1 + length (node_blocks m) + (b - lines) ≡ b = omega arith in
-          ap (λ (x : ℕ). each clause_text (constraint_clauses m.n (table_of m) x (get_or m.constraints (b - lines) d)))
+          ap (λ (x : ℕ). flat_map clause_text (constraint_clauses m.n (table_of m) x (get_or m.constraints (b - lines) d)))
           (x-is ∙ ap (λ (j : ℕ). 1 + table_variables (table_of m) + total (difference_count (table_of m)) (take j (constraints_of m))) i)
           ∙ block-constraint m q d (b - lines) place-in-model
           ∙ ap (block_text m) is

@@ -7,7 +7,8 @@ use native.Mathlib.Nat.{le_trans}
 use native.Mathlib.Omega.{arith}
 use native.Mathlib.Decide.{dec_lt}
 use lib.ListN.{length}
-use Rattle.model.specs.Lists.{each, range}
+use Rattle.std.specs.List.{flat_map}
+use Rattle.model.specs.Lists.{range}
 use Rattle.model.specs.Totalizer.{shape, root_output, tree_output_count}
 use Rattle.text.specs.Put.{Wrote}
 use Rattle.cnf.specs.Run.{Ran}
@@ -87,12 +88,12 @@ module _ (m v o L U : ℕ) where
   below-is k h = below-text m v o L U k h
 
   module _ (k first : ℕ) (e : first ≡ root_output (shape m) v o) (h : k + 2 ≡ m) where
-    pub own_is : (node_text (node_at m v o k) ++ each (unit_text true first) (range 0 L)) ++ each (unit_text false first) (range U (m - U)) ≡ tree_text m v o L U k
+    pub own_is : (node_text (node_at m v o k) ++ flat_map (unit_text true first) (range 0 L)) ++ flat_map (unit_text false first) (range U (m - U)) ≡ tree_text m v o L U k
     unfolding tree_text
     own_is = root-text m v o L U k first e h
 
     pub own-length : length (tree_text m v o L U k)
-        ≡ length (node_text (node_at m v o k)) + length (each (unit_text true first) (range 0 L)) + length (each (unit_text false first) (range U (m - U)))
+        ≡ length (node_text (node_at m v o k)) + length (flat_map (unit_text true first) (range 0 L)) + length (flat_map (unit_text false first) (range U (m - U)))
     unfolding tree_text
     own-length = root-length m v o L U k first e h
 
@@ -107,7 +108,7 @@ plain m v o k h = go (dec_lt (k + 2) m)
         let z : m - m ≡ 0 = omega arith in
         sym (append-nil (node_text (node_at m v o k)))
         ∙ sym (append-nil (node_text (node_at m v o k) ++ []))
-        ∙ ap (λ (n : ℕ). (node_text (node_at m v o k) ++ []) ++ each (unit_text false r) (range m n)) (sym z)
+        ∙ ap (λ (n : ℕ). (node_text (node_at m v o k) ++ []) ++ flat_map (unit_text false r) (range m n)) (sym z)
         ∙ own_is m v o 0 m k r refl (omega arith)
 
 module _ (m v o L U : ℕ) (two : 2 ≤ m) where

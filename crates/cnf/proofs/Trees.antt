@@ -13,7 +13,8 @@ use Rattle.model.specs.declared.Literal.{Literal}
 use Rattle.model.specs.declared.Literal.TheVariants.{Pos, Neg}
 use Rattle.model.specs.declared.Node.{Node}
 use Rattle.model.specs.declared.Term.TheVariants.{Fails, Open}
-use Rattle.model.specs.Lists.{each, range}
+use Rattle.std.specs.List.{flat_map}
+use Rattle.model.specs.Lists.{range}
 use Rattle.model.specs.Totalizer.{Shape, keep, dropped, row_clauses, node_clauses, shape, root_output, unit, unit_clauses, totalizer_blocks, tree_output_count}
 use Rattle.model.specs.Text.{clause_text}
 use Rattle.model.proofs.Lists.{each_append, each-each, each_map, each-range_ext}
@@ -25,17 +26,17 @@ use Rattle.text.specs.Put.{kept_text}
 
 -- ---- a node
 
-node-text : (t : Node) → each clause_text (node_clauses t) ≡ node_text t
+node-text : (t : Node) → flat_map clause_text (node_clauses t) ≡ node_text t
 unfolding node_clauses row_clauses node_text row_text pair_text
 node-text t =
     each-each clause_text (row_clauses t) (range 0 (suc t.a))
-    ∙ each-range_ext (λ p. each clause_text (row_clauses t p)) (row_text t) 0 (suc t.a) (λ p _ _. row p)
-    ∙ ap (λ (k : ℕ). each (row_text t) (range 0 k)) (sym (add-one t.a))
+    ∙ each-range_ext (λ p. flat_map clause_text (row_clauses t p)) (row_text t) 0 (suc t.a) (λ p _ _. row p)
+    ∙ ap (λ (k : ℕ). flat_map (row_text t) (range 0 k)) (sym (add-one t.a))
   where
-    row : (p : ℕ) → each clause_text (row_clauses t p) ≡ row_text t p
+    row : (p : ℕ) → flat_map clause_text (row_clauses t p) ≡ row_text t p
     row p =
         each-each clause_text (dropped t p) (range 0 (suc t.b))
-        ∙ ap (λ (k : ℕ). each (pair_text t p) (range 0 k)) (sym (add-one t.b))
+        ∙ ap (λ (k : ℕ). flat_map (pair_text t p) (range 0 k)) (sym (add-one t.b))
 
 -- ---- the tree's root
 
@@ -103,7 +104,7 @@ unfolding unit_text unit
 unit-is s first i = refl
 
 units_text : (first m L U : ℕ)
-    → each clause_text (unit_clauses first m L U) ≡ each (unit_text true first) (range 0 L) ++ each (unit_text false first) (range U (m - U))
+    → flat_map clause_text (unit_clauses first m L U) ≡ flat_map (unit_text true first) (range 0 L) ++ flat_map (unit_text false first) (range U (m - U))
 unfolding unit_clauses unit_text
 units_text first m L U =
     each_append clause_text (map (unit Pos first) (range 0 L)) (map (unit Neg first) (range U (m - U)))
@@ -115,28 +116,28 @@ module _ (m v o L U k : ℕ) where
   abbrev block_of : List (List Literal)
   block_of = get_or (totalizer_blocks m v o L U) k []
 
-  pub below-text : k + 2 < m → node_text (node_at m v o k) ≡ each clause_text block_of
+  pub below-text : k + 2 < m → node_text (node_at m v o k) ≡ flat_map clause_text block_of
   unfolding node_at units_at
   below-text h =
       let none : eqb (k + 2) m ≡ false = ne_eqb (k + 2) m (λ e. omega arith) in
       let is : block_of ≡ node_clauses (node_at m v o k) =
       totalizer-block m v o L U k zero_node (omega arith) ∙ rw none (append-nil (node_clauses (node_at m v o k))) in
-      sym (ap (each clause_text) is ∙ node-text (node_at m v o k))
+      sym (ap (flat_map clause_text) is ∙ node-text (node_at m v o k))
 
   module _ (first : ℕ) (e : first ≡ root_output (shape m) v o) (h : k + 2 ≡ m) where
-    pub root-text : (node_text (node_at m v o k) ++ each (unit_text true first) (range 0 L)) ++ each (unit_text false first) (range U (m - U)) ≡ each clause_text block_of
+    pub root-text : (node_text (node_at m v o k) ++ flat_map (unit_text true first) (range 0 L)) ++ flat_map (unit_text false first) (range U (m - U)) ≡ flat_map clause_text block_of
     unfolding node_at units_at
     root-text =
         let us = unit_clauses (root_output (shape m) v o) m L U in
         let is : block_of ≡ node_clauses (node_at m v o k) ++ us = totalizer-block m v o L U k zero_node (omega arith) ∙ rw (eq-eqb (k + 2) m h) in
-        sym (ap (each clause_text) is
+        sym (ap (flat_map clause_text) is
         ∙ each_append clause_text (node_clauses (node_at m v o k)) us
-        ∙ ap₂ (λ (x y : List ℕ). x ++ y) (node-text (node_at m v o k)) (ap (λ (n : ℕ). each clause_text (unit_clauses n m L U)) (sym e) ∙ units_text first m L U)
-        ∙ sym (append_assoc (node_text (node_at m v o k)) (each (unit_text true first) (range 0 L)) (each (unit_text false first) (range U (m - U)))))
+        ∙ ap₂ (λ (x y : List ℕ). x ++ y) (node-text (node_at m v o k)) (ap (λ (n : ℕ). flat_map clause_text (unit_clauses n m L U)) (sym e) ∙ units_text first m L U)
+        ∙ sym (append_assoc (node_text (node_at m v o k)) (flat_map (unit_text true first) (range 0 L)) (flat_map (unit_text false first) (range U (m - U)))))
 
-    pub root-length : length (each clause_text block_of)
-        ≡ length (node_text (node_at m v o k)) + length (each (unit_text true first) (range 0 L)) + length (each (unit_text false first) (range U (m - U)))
+    pub root-length : length (flat_map clause_text block_of)
+        ≡ length (node_text (node_at m v o k)) + length (flat_map (unit_text true first) (range 0 L)) + length (flat_map (unit_text false first) (range U (m - U)))
     root-length =
         ap length (sym root-text)
-        ∙ length-append (node_text (node_at m v o k) ++ each (unit_text true first) (range 0 L)) (each (unit_text false first) (range U (m - U)))
-        ∙ ap (λ (n : ℕ). n + length (each (unit_text false first) (range U (m - U)))) (length-append (node_text (node_at m v o k)) (each (unit_text true first) (range 0 L)))
+        ∙ length-append (node_text (node_at m v o k) ++ flat_map (unit_text true first) (range 0 L)) (flat_map (unit_text false first) (range U (m - U)))
+        ∙ ap (λ (n : ℕ). n + length (flat_map (unit_text false first) (range U (m - U)))) (length-append (node_text (node_at m v o k)) (flat_map (unit_text true first) (range 0 L)))

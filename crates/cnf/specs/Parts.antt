@@ -6,7 +6,8 @@ use Rattle.model.specs.declared.Term.{Term}
 use Rattle.model.specs.declared.Node.{Node}
 use Rattle.model.specs.declared.Group.{Group}
 use Rattle.model.specs.declared.Model.{Model}
-use Rattle.model.specs.Lists.{each, range}
+use Rattle.std.specs.List.{flat_map}
+use Rattle.model.specs.Lists.{range}
 use Rattle.model.specs.Limits.{limits}
 use Rattle.model.specs.Clauses.{member_clauses}
 use Rattle.model.specs.Cnf.{open_count, at_least, at_most}
@@ -26,13 +27,13 @@ terms_of x = x.c ∷ x.d ∷ x.n ∷ []
 
 -- the text of what the steps leave at p and q, of a row, of the node
 unfoldable pub pair_text : Node → ℕ → ℕ → List ℕ
-pair_text t p q = each clause_text (dropped t p q)
+pair_text t p q = flat_map clause_text (dropped t p q)
 
 unfoldable pub row_text : Node → ℕ → List ℕ
-row_text t p = each (pair_text t p) (range 0 (t.b + 1))
+row_text t p = flat_map (pair_text t p) (range 0 (t.b + 1))
 
 unfoldable pub node_text : Node → List ℕ
-node_text t = each (row_text t) (range 0 (t.a + 1))
+node_text t = flat_map (row_text t) (range 0 (t.a + 1))
 
 -- ---- a tree's nodes and units
 
@@ -54,7 +55,7 @@ unit_text s first i = clause_text (unit (signed s) first i)
 
 -- block k of a tree of size m, its variables from v on and the outputs from o on, with the units of L and U in the root's
 unfoldable pub tree_text : ℕ → ℕ → ℕ → ℕ → ℕ → ℕ → List ℕ
-tree_text m v o L U k = each clause_text (get_or (totalizer_blocks m v o L U) k [])
+tree_text m v o L U k = flat_map clause_text (get_or (totalizer_blocks m v o L U) k [])
 
 -- none of its blocks has more bytes
 abbrev pub NoLonger : ℕ → ℕ → ℕ → ℕ → ℕ → ℕ → Type 0
@@ -62,7 +63,7 @@ NoLonger most m v o L U = (k : ℕ) → k + 2 ≤ m → length (tree_text m v o 
 
 -- block k of a group, its variables from v on and the outputs from o on
 unfoldable pub group_block_text : Group → ℕ → ℕ → ℕ → List ℕ
-group_block_text g v o k = each clause_text (get_or (totalizer_blocks (open_count g) v o (at_least g) (at_most g)) k [])
+group_block_text g v o k = flat_map clause_text (get_or (totalizer_blocks (open_count g) v o (at_least g) (at_most g)) k [])
 
 -- none of its blocks has more bytes
 abbrev pub NoneLonger : ℕ → Group → ℕ → ℕ → Type 0
@@ -72,10 +73,10 @@ NoneLonger most g v o = (k : ℕ) → k < nodes_of g → length (group_block_tex
 
 -- the clauses of an entrant, where the members' numbers are ns, and of the first n entrants
 unfoldable pub entrant_text : List ℕ → ℕ → ℕ → List ℕ
-entrant_text ns code count = each (λ j. kept_text (clause_terms ns code count j)) (range 0 (length (member_clauses code count)))
+entrant_text ns code count = flat_map (λ j. kept_text (clause_terms ns code count j)) (range 0 (length (member_clauses code count)))
 
 unfoldable pub constraint_text : List Member → ℕ → ℕ → ℕ → List ℕ
-constraint_text ms code count n = each (λ e. entrant_text (map (member_number e) ms) code count) (range 0 n)
+constraint_text ms code count n = flat_map (λ e. entrant_text (map (member_number e) ms) code count) (range 0 n)
 
 -- the k variables from `first` on are among those that a listing may have
 abbrev pub Among : ℕ → ℕ → Type 0

@@ -1,7 +1,8 @@
 -- A run of blocks, for a listing that is written with few calls: blocks b, b + 1, .. while none is refused. Assumes nothing.
 use Rattle.std.specs.Prelude.{ℕ, zero, suc, ◌+◌, ◌-◌, ◌≤◌, ◌<◌, ◌≡◌, true, false, List, [], ◌∷◌, ◌++◌, eqb, leb, length, drop, take}
 use Rattle.model.specs.declared.Model.{Model}
-use Rattle.model.specs.Lists.{each, range}
+use Rattle.std.specs.List.{flat_map}
+use Rattle.model.specs.Lists.{range}
 use Rattle.model.specs.Cnf.{block_count}
 use Rattle.model.specs.Text.{block_text, block_refusal, listing}
 use Rattle.correctness.specs.Demand3.{Listing}
@@ -25,7 +26,7 @@ fit_count f (suc k) x room =
 -- they were written at `at`; `next` is the first that was not, and r the place after them
 pub record Ran (f : ℕ → List ℕ) (k x at : ℕ) (before after : List ℕ) (n r : ℕ) : Type 0 where
   pub next : n ≡ x + fit_count f k x (length before - at)
-  pub wrote : Wrote (each f (range x (fit_count f k x (length before - at)))) at before after r
+  pub wrote : Wrote (flat_map f (range x (fit_count f k x (length before - at)))) at before after r
 
 -- ---- a run up to block `end`
 
@@ -33,7 +34,7 @@ unfoldable pub length_to : Model → ℕ → ℕ → ℕ → ℕ
 length_to m b end room = run_count (end + 1 - b) m b room
 
 unfoldable pub text_to : Model → ℕ → ℕ → ℕ → List ℕ
-text_to m b end room = each (block_text m) (range b (length_to m b end room))
+text_to m b end room = flat_map (block_text m) (range b (length_to m b end room))
 
 -- refused as its first block would be
 unfoldable pub run_to : Model → ℕ → ℕ → ℕ → Run
@@ -61,8 +62,8 @@ run_buffer m b buf = buffer_to m b (block_count m) buf
 pub record ListedRun (m : Model) (b : ℕ) (r : Run) (buffer : List ℕ) : Type 0 where
   pub moves : b < r.next
   pub ends : r.next ≤ block_count m + 1
-  pub text : take r.length buffer ≡ each (block_text m) (range b (r.next - b))
-  pub part : listing m ≡ each (block_text m) (range 0 b) ++ take r.length buffer ++ each (block_text m) (range r.next (block_count m + 1 - r.next))
+  pub text : take r.length buffer ≡ flat_map (block_text m) (range b (r.next - b))
+  pub part : listing m ≡ flat_map (block_text m) (range 0 b) ++ take r.length buffer ++ flat_map (block_text m) (range r.next (block_count m + 1 - r.next))
   pub listed : Listing m
 
 -- ---- runs one after the other, each from where the last stopped, in buffers of these lengths

@@ -5,7 +5,8 @@ mod totalizer;
 
 ghost use Rattle.std.specs.Prelude.{◌≡◌, map, T, leb, ◌+◌, ◌-◌, ◌*◌, ◌≤◌, ◌<◌, length, get_or, take};
 ghost use Rattle.model.specs.declared.Literal.TheVariants.{Pos};
-ghost use Rattle.model.specs.Lists.{each, range};
+ghost use Rattle.std.specs.List.{flat_map};
+ghost use Rattle.model.specs.Lists.{range};
 ghost use Rattle.model.specs.Limits.{limits};
 ghost use Rattle.model.specs.Cnf.{open_count, outputs_of, difference_count, constraint_clauses, block_count};
 ghost use Rattle.encoding_laws.specs.Division.{nodes_of};
@@ -26,7 +27,7 @@ ghost use Rattle.cnf.specs.Parts.{group_block_text, entrant_text, constraint_tex
 use model::{Constraint, Group, Literal, Model, Written};
 use numbering::Numbering;
 use terms::Member;
-use totalizer::{least, put_tree};
+use totalizer::put_tree;
 
 // ---- a group
 
@@ -87,12 +88,9 @@ fn put_group(
     ensures ran { Ran (λ i. group_block_text g v o (i - first)) (result.end - x) x at buf.old buf.new result.next result.at }
 {
     let t = numbering::totalizer_of(g);
-    let size = t.size;
-    let low = t.low;
-    let high = t.high;
-    let e = least(end, first + (size - 1));
-    let most = most_bytes(size);
-    let p = put_tree(buf, at, x, e, first, size, v, o, low, high, most);
+    let e = end.min(first + (t.size - 1));
+    let most = most_bytes(t.size);
+    let p = put_tree(buf, at, x, e, first, t.size, v, o, t.low, t.high, most);
     Part {
         at: p.at,
         next: p.next,
@@ -113,12 +111,9 @@ fn put_entrant(
     requires { at + length (entrant_text ns.now code count) ≤ length buf.old }
     ensures { Wrote (entrant_text ns.now code count) at buf.old buf.new result }
 {
-    let end = constraint::clause_count(code, count);
     let mut n = at;
-    let mut j: usize = 0;
-    while j < end {
+    for j in 0..constraint::clause_count(code, count) {
         n = terms::put_clause(buf, n, ns, code, count, j);
-        j += 1;
     }
     n
 }
@@ -127,7 +122,7 @@ fn put_entrant(
 fn put_constraint(
     buf: &mut [u8],
     at: usize,
-    ms: [Member; Model::MEMBERS],
+    ms: &[Member; Model::MEMBERS],
     k: usize,
     code: u32,
     count: u32,
@@ -135,15 +130,12 @@ fn put_constraint(
 ) -> usize
     requires k_le_members { (k ≤ limits.members) × (n ≤ limits.entrants) }
     requires members_below { MembersBelow k code count }
-    requires n_in_bounds { at + length (constraint_text (take k ms) code count n) ≤ length buf.old }
-    ensures { Wrote (constraint_text (take k ms) code count n) at buf.old buf.new result }
+    requires n_in_bounds { at + length (constraint_text (take k ms.now) code count n) ≤ length buf.old }
+    ensures { Wrote (constraint_text (take k ms.now) code count n) at buf.old buf.new result }
 {
     let mut x = at;
-    let mut e = 0;
-    while e < n {
-        let ns = terms::member_numbers(ms, k, e);
-        x = put_entrant(buf, x, &ns, code, count);
-        e += 1;
+    for e in 0..n {
+        x = put_entrant(buf, x, &terms::member_numbers(ms, k, e), code, count);
     }
     x
 }
@@ -155,10 +147,8 @@ fn write_rising(buf: &mut [u8], x: u32, k: u32) -> usize
     ensures { Wrote (clause_text (map Pos (range x k))) 0 buf.old buf.new result }
 {
     let mut n: usize = 0;
-    let mut i = 0;
-    while i < k {
+    for i in 0..k {
         n = text::put_literal(buf, n, Literal::Pos(x + i));
-        i += 1;
     }
     text::put_bytes(buf, n, b"0\n")
 }
@@ -177,43 +167,42 @@ fn put_rising(buf: &mut [u8], at: usize, x: u32, k: u32) -> usize
 fn put_constraint_block(
     buf: &mut [u8],
     at: usize,
-    groups: [Group; Model::GROUPS],
+    groups: &[Group; Model::GROUPS],
     s: usize,
-    first: [u32; Model::GROUPS],
-    c: Constraint,
+    first: &[u32; Model::GROUPS],
+    c: &Constraint,
     n: u32,
     x: u32,
 ) -> usize
     requires s_le_groups { (s ≤ limits.groups) × (n ≤ limits.entrants) }
-    requires all { All (SettledAmong n) (take s groups) × (first ≡ first_variables (take s groups)) }
-    requires t { T (constraint_in_range s c) × (1 ≤ x) × Among x (difference_count (take s groups) c) }
-    requires c_in_bounds { at + length (each clause_text (constraint_clauses n (take s groups) x c)) ≤ length buf.old }
-    ensures { Wrote (each clause_text (constraint_clauses n (take s groups) x c)) at buf.old buf.new result }
+    requires all { All (SettledAmong n) (take s groups.now) × (first.now ≡ first_variables (take s groups.now)) }
+    requires t { T (constraint_in_range s c.now) × (1 ≤ x) × Among x (difference_count (take s groups.now) c.now) }
+    requires c_in_bounds { at + length (flat_map clause_text (constraint_clauses n (take s groups.now) x c.now)) ≤ length buf.old }
+    ensures { Wrote (flat_map clause_text (constraint_clauses n (take s groups.now) x c.now)) at buf.old buf.new result }
 {
-    let ids = c.groups;
     if c.code != 7 {
         let k = range::member_count(c.code, c.count);
-        let ms = terms::members(groups, first, ids, k);
-        return put_constraint(buf, at, ms, k, c.code, c.count, n);
+        let ms = terms::members(groups, first, &c.groups, k);
+        return put_constraint(buf, at, &ms, k, c.code, c.count, n);
     }
     if difference::is_apart(groups, s, c) {
         return at;
     }
     let o = difference::differing(groups, s, c);
-    let ms = terms::difference_members(groups, first, ids, o, x);
-    let y = put_constraint(buf, at, ms, 3, c.code, c.count, n);
-    put_rising(buf, y, x, u64::count_ones(o))
+    let ms = terms::difference_members(groups, first, &c.groups, o, x);
+    let y = put_constraint(buf, at, &ms, 3, c.code, c.count, n);
+    put_rising(buf, y, x, o.count_ones())
 }
 
 // ---- blocks
 
 // Block 0: `p cnf V C` and byte 10.
-fn put_header(buf: &mut [u8], at: usize, m: Model, v: Numbering) -> usize
-    requires settled { Settled m × (v ≡ numbering_of m) }
-    requires m_in_bounds { at + length (header_text m) ≤ length buf.old }
-    ensures { Wrote (header_text m) at buf.old buf.new result }
+fn put_header(buf: &mut [u8], at: usize, m: &Model, v: &Numbering) -> usize
+    requires settled { Settled m.now × (v.now ≡ numbering_of m.now) }
+    requires m_in_bounds { at + length (header_text m.now) ≤ length buf.old }
+    ensures { Wrote (header_text m.now) at buf.old buf.new result }
 {
-    let c = counts::clause_count(m);
+    let c = counts::clause_count(*m);
     let x = text::put_bytes(buf, at, b"p cnf ");
     let y = text::put_number(buf, x, v.variables);
     let z = text::put_bytes(buf, y, b" ");
@@ -224,9 +213,9 @@ fn put_header(buf: &mut [u8], at: usize, m: Model, v: Numbering) -> usize
 // ---- what fits in `left` bytes: it is measured only where there may be no room
 
 // Block 0.
-fn header_fits(m: Model, v: Numbering, left: usize) -> bool
-    requires { Settled m × (v ≡ numbering_of m) }
-    ensures { result ≡ leb (length (header_text m)) left }
+fn header_fits(m: &Model, v: &Numbering, left: usize) -> bool
+    requires { Settled m.now × (v.now ≡ numbering_of m.now) }
+    ensures { result ≡ leb (length (header_text m.now)) left }
 {
     if left < Model::BLOCK_BYTES {
         let mut scratch = [0u8; Model::BLOCK_BYTES];
@@ -238,19 +227,19 @@ fn header_fits(m: Model, v: Numbering, left: usize) -> bool
 
 // A constraint's block.
 fn constraint_block_fits(
-    groups: [Group; Model::GROUPS],
+    groups: &[Group; Model::GROUPS],
     s: usize,
-    first: [u32; Model::GROUPS],
-    c: Constraint,
+    first: &[u32; Model::GROUPS],
+    c: &Constraint,
     n: u32,
     x: u32,
     left: usize,
 ) -> bool
     requires s_le_groups { (s ≤ limits.groups) × (n ≤ limits.entrants) }
-    requires all { All (SettledAmong n) (take s groups) × (first ≡ first_variables (take s groups)) }
-    requires t { T (constraint_in_range s c) × (1 ≤ x) × Among x (difference_count (take s groups) c) }
-    requires c_len_bound { length (each clause_text (constraint_clauses n (take s groups) x c)) ≤ limits.block }
-    ensures { result ≡ leb (length (each clause_text (constraint_clauses n (take s groups) x c))) left }
+    requires all { All (SettledAmong n) (take s groups.now) × (first.now ≡ first_variables (take s groups.now)) }
+    requires t { T (constraint_in_range s c.now) × (1 ≤ x) × Among x (difference_count (take s groups.now) c.now) }
+    requires c_len_bound { length (flat_map clause_text (constraint_clauses n (take s groups.now) x c.now)) ≤ limits.block }
+    ensures { result ≡ leb (length (flat_map clause_text (constraint_clauses n (take s groups.now) x c.now))) left }
 {
     if left < Model::BLOCK_BYTES {
         let mut scratch = [0u8; Model::BLOCK_BYTES];
@@ -270,35 +259,31 @@ pub struct Run {
     pub length: usize,
 }
 
-// The blocks of a settled model from b to `end`, while each fits in what is left. Only block 0 takes the model: by value it would be a copy for each line.
-fn write_run(m: Model, b: u32, end: u32, buf: &mut [u8]) -> Run
-    requires { Settled m × (b ≤ end) × (end ≤ block_count m) }
-    ensures value { result ≡ run_to m b end (length buf.old) }
-    ensures buf_after { buf.new ≡ buffer_to m b end buf.old }
+// The blocks of a settled model from b to `end`, while each fits in what is left.
+fn write_run(m: &Model, b: u32, end: u32, buf: &mut [u8]) -> Run
+    requires { Settled m.now × (b ≤ end) × (end ≤ block_count m.now) }
+    ensures value { result ≡ run_to m.now b end (length buf.old) }
+    ensures buf_after { buf.new ≡ buffer_to m.now b end buf.old }
 {
-    let v = numbering::of_model(m);
-    let numbers = v.first;
-    let groups = m.groups;
+    let v = numbering::of_model(*m);
     let s = m.s as usize;
-    let d = blocks::of_groups(groups, m.s);
-    let first = d.first;
+    let d = blocks::of_groups(&m.groups, m.s);
     let mut at: usize = 0;
     let mut x = b;
     let mut stop = end + 1;
     while x < stop {
         let left = buf.len() - at;
         if x == 0 {
-            if header_fits(m, v, left) {
-                at = put_header(buf, at, m, v);
+            if header_fits(m, &v, left) {
+                at = put_header(buf, at, m, &v);
                 x += 1;
             } else {
                 stop = x;
             }
         } else if x < d.lines {
-            let i = group_of(&first, s, x);
-            let g = groups[i];
-            let o = v.outputs[i];
-            let p = put_group(buf, at, x, stop, first[i], g, numbers[i], o);
+            let i = group_of(&d.first, s, x);
+            let g = m.groups[i];
+            let p = put_group(buf, at, x, stop, d.first[i], g, v.first[i], v.outputs[i]);
             at = p.at;
             x = p.next;
             if x < p.end {
@@ -306,10 +291,10 @@ fn write_run(m: Model, b: u32, end: u32, buf: &mut [u8]) -> Run
             }
         } else {
             let j = (x - d.lines) as usize;
-            let c = m.constraints[j];
+            let c = &m.constraints[j];
             let o = v.differences[j];
-            if constraint_block_fits(groups, s, numbers, c, m.n, o, left) {
-                at = put_constraint_block(buf, at, groups, s, numbers, c, m.n, o);
+            if constraint_block_fits(&m.groups, s, &v.first, c, m.n, o, left) {
+                at = put_constraint_block(buf, at, &m.groups, s, &v.first, c, m.n, o);
                 x += 1;
             } else {
                 stop = x;
@@ -345,10 +330,8 @@ pub fn write_block(m: Model, b: u32, buf: &mut [u8]) -> Written
     if refusal != 0 {
         return Written::Refused(refusal);
     }
-    let groups = m.groups;
-    let constraints = m.constraints;
-    model::whole(groups, constraints);
-    let r = write_run(m, b, b, buf);
+    model::whole(m.groups, m.constraints);
+    let r = write_run(&m, b, b, buf);
     if r.refusal != 0 {
         return Written::Refused(r.refusal);
     }
@@ -371,9 +354,7 @@ pub fn write_blocks(m: Model, b: u32, buf: &mut [u8]) -> Run
             length: 0,
         };
     }
-    let groups = m.groups;
-    let constraints = m.constraints;
-    model::whole(groups, constraints);
-    let d = blocks::of_groups(groups, m.s);
-    write_run(m, b, d.lines - 1 + m.c, buf)
+    model::whole(m.groups, m.constraints);
+    let d = blocks::of_groups(&m.groups, m.s);
+    write_run(&m, b, d.lines - 1 + m.c, buf)
 }

@@ -1,6 +1,7 @@
 // A totalizer's clauses: those of each node of the tree, and the units that set the limits.
 ghost use Rattle.std.specs.Prelude.{◌≡◌, [], ◌∷◌, ◌+◌, ◌-◌, ◌≤◌, ◌<◌, leb, length};
-ghost use Rattle.model.specs.Lists.{each, range};
+ghost use Rattle.std.specs.List.{flat_map};
+ghost use Rattle.model.specs.Lists.{range};
 ghost use Rattle.model.specs.Limits.{limits};
 ghost use Rattle.model.specs.Totalizer.{formed, output, output_term, node_terms, shape, root_output, tree_output_count};
 ghost use Rattle.model.specs.Text.{clause_text};
@@ -66,13 +67,10 @@ fn put_in(t: Node, f: Printed) -> Terms
     requires { Small t }
     ensures { terms_of result ≡ node_terms t f }
 {
-    let c = f.c;
-    let d = f.d;
-    let n = f.n;
     Terms {
-        c: output_term(t.c, t.a, c),
-        d: output_term(t.d, t.b, d),
-        n: output_term(t.n, t.a + t.b, n),
+        c: output_term(t.c, t.a, f.c),
+        d: output_term(t.d, t.b, f.d),
+        n: output_term(t.n, t.a + t.b, f.n),
     }
 }
 
@@ -81,10 +79,7 @@ fn put_dropped(buf: &mut [u8], at: usize, x: Terms) -> usize
     requires { at + length (kept_text (terms_of x)) ≤ length buf.old }
     ensures { Wrote (kept_text (terms_of x)) at buf.old buf.new result }
 {
-    let c = x.c;
-    let d = x.d;
-    let n = x.n;
-    text::put_three(buf, at, c, d, n)
+    text::put_three(buf, at, x.c, x.d, x.n)
 }
 
 // The clauses of one p, for q = 0..b.
@@ -94,14 +89,11 @@ fn put_row(buf: &mut [u8], at: usize, t: Node, p: u32) -> usize
     requires p_in_bounds { at + length (row_text t p) ≤ length buf.old }
     ensures { Wrote (row_text t p) at buf.old buf.new result }
 {
-    let end = t.b + 1;
     let mut n = at;
-    let mut q = 0;
-    while q < end {
+    for q in 0..t.b + 1 {
         let f = form(p, q);
         let k = put_dropped(buf, n, put_in(t, f.up));
         n = put_dropped(buf, k, put_in(t, f.down));
-        q += 1;
     }
     n
 }
@@ -112,12 +104,9 @@ fn put_node(buf: &mut [u8], at: usize, t: Node) -> usize
     requires t_in_bounds { at + length (node_text t) ≤ length buf.old }
     ensures { Wrote (node_text t) at buf.old buf.new result }
 {
-    let end = t.a + 1;
     let mut n = at;
-    let mut p = 0;
-    while p < end {
+    for p in 0..t.a + 1 {
         n = put_row(buf, n, t, p);
-        p += 1;
     }
     n
 }
@@ -142,11 +131,10 @@ fn own_node(m: u32, v: u32, o: u32) -> Node
 {
     let a = m / 2;
     let b = m - a;
-    let w = v + a;
     let p = o + numbering::output_count(a);
     let n = p + numbering::output_count(b);
     let c = root(a, v, p);
-    let d = root(b, w, n);
+    let d = root(b, v + a, n);
     Node { c, a, d, b, n }
 }
 
@@ -168,14 +156,12 @@ fn put_unit(buf: &mut [u8], at: usize, positive: bool, v: u32) -> usize
 // The unit clauses of the outputs a, a + 1, .. (k of them) that are numbered from first on.
 fn put_units(buf: &mut [u8], at: usize, positive: bool, first: u32, a: u32, k: u32) -> usize
     requires among { Among first (a + k) }
-    requires k_in_bounds { at + length (each (unit_text positive first) (range a k)) ≤ length buf.old }
-    ensures { Wrote (each (unit_text positive first) (range a k)) at buf.old buf.new result }
+    requires k_in_bounds { at + length (flat_map (unit_text positive first) (range a k)) ≤ length buf.old }
+    ensures { Wrote (flat_map (unit_text positive first) (range a k)) at buf.old buf.new result }
 {
     let mut n = at;
-    let mut i = 0;
-    while i < k {
+    for i in 0..k {
         n = put_unit(buf, n, positive, first + (a + i));
-        i += 1;
     }
     n
 }
@@ -191,9 +177,8 @@ fn put_own(buf: &mut [u8], at: usize, m: u32, v: u32, o: u32, low: u32, high: u3
 {
     let t = own_node(m, v, o);
     let x = put_node(buf, at, t);
-    let n = t.n;
-    let y = put_units(buf, x, true, n, 0, low);
-    put_units(buf, y, false, n, high, m - high)
+    let y = put_units(buf, x, true, t.n, 0, low);
+    put_units(buf, y, false, t.n, high, m - high)
 }
 
 // Whether it fits in `left` bytes: it is written to a local array, which measures it.
@@ -206,15 +191,6 @@ fn own_fits(m: u32, v: u32, o: u32, low: u32, high: u32, left: usize) -> bool
     let mut scratch = [0u8; Model::BLOCK_BYTES];
     let n = put_own(&mut scratch, 0, m, v, o, low, high);
     n <= left
-}
-
-pub(crate) fn least(a: u32, b: u32) -> u32
-    ensures { (result ≡ a - (a - b)) × (result ≤ a) × (result ≤ b) }
-{
-    if a < b {
-        return a;
-    }
-    b
 }
 
 // The place after what is written, and the first block that is not.
@@ -252,29 +228,39 @@ pub(crate) fn put_tree(
     let b = m - a;
     let middle = first + (a - 1);
     let last = first + (m - 2);
-    let l = put_tree(buf, at, x, least(middle, end), first, a, v, o, 0, a, most);
-    let y = l.next;
-    if y < middle {
+    let l = put_tree(buf, at, x, middle.min(end), first, a, v, o, 0, a, most);
+    if l.next < middle {
         return l;
     }
     let p = o + numbering::output_count(a);
-    let w = v + a;
-    let la = l.at;
-    let r = put_tree(buf, la, y, least(last, end), middle, b, w, p, 0, b, most);
-    let z = r.next;
-    if z < last {
+    let r = put_tree(
+        buf,
+        l.at,
+        l.next,
+        last.min(end),
+        middle,
+        b,
+        v + a,
+        p,
+        0,
+        b,
+        most,
+    );
+    if r.next < last {
         return r;
     }
     if end <= last {
         return r;
     }
-    let ra = r.at;
-    let left = buf.len() - ra;
+    let left = buf.len() - r.at;
     if left < most {
         if !own_fits(m, v, o, low, high, left) {
             return r;
         }
     }
-    let n = put_own(buf, ra, m, v, o, low, high);
-    Place { at: n, next: z + 1 }
+    let n = put_own(buf, r.at, m, v, o, low, high);
+    Place {
+        at: n,
+        next: r.next + 1,
+    }
 }

@@ -9,7 +9,8 @@ use lib.Dec.{T, leb, leb→le, le→leb}
 use lib.ListN.{length, get_or, take, set, replicate}
 use lib.Seq.{length-take-le}
 use Rattle.model.specs.declared.Group.{Group}
-use Rattle.model.specs.Lists.{every, pairwise}
+use Rattle.std.specs.List.{list_all}
+use Rattle.model.specs.Lists.{pairwise}
 use Rattle.model.specs.Words.{inside}
 use Rattle.model.specs.Model.{zero_group, group_in_range}
 use Rattle.model.specs.Solution.{allowed}
@@ -154,16 +155,16 @@ pub tables_fit : (xs ys : List Group) (d : List ℕ) → T (pairwise allowed xs 
 unfolding within
 tables_fit xs ys d s t = points-fit xs ys d (subst T (allowed-points xs d) s) (subst T (allowed-points ys d) t)
 
-pub table-combined : (n : ℕ) (xs ys : List Group) → T (every (group_in_range n) xs) → T (every (group_in_range n) ys) → T (pairwise fits xs ys)
-    → T (every (group_in_range n) (combined_table xs ys))
+pub table-combined : (n : ℕ) (xs ys : List Group) → T (list_all (group_in_range n) xs) → T (list_all (group_in_range n) ys) → T (pairwise fits xs ys)
+    → T (list_all (group_in_range n) (combined_table xs ys))
 table-combined n [] ys s t f = tt
 table-combined n (x ∷ xs) [] s t f = tt
 table-combined n (x ∷ xs) (y ∷ ys) s t f =
     let a = group_in_range n x in
     let b = group_in_range n y in
-    and_both (group_in_range n (combined_group x y)) (every (group_in_range n) (combined_table xs ys))
-    (group-combined n x y (and_left a (every (group_in_range n) xs) s) (and_left b (every (group_in_range n) ys) t) (and_left (fits x y) (pairwise fits xs ys) f))
-    (table-combined n xs ys (and_right a (every (group_in_range n) xs) s) (and_right b (every (group_in_range n) ys) t) (and_right (fits x y) (pairwise fits xs ys) f))
+    and_both (group_in_range n (combined_group x y)) (list_all (group_in_range n) (combined_table xs ys))
+    (group-combined n x y (and_left a (list_all (group_in_range n) xs) s) (and_left b (list_all (group_in_range n) ys) t) (and_left (fits x y) (pairwise fits xs ys) f))
+    (table-combined n xs ys (and_right a (list_all (group_in_range n) xs) s) (and_right b (list_all (group_in_range n) ys) t) (and_right (fits x y) (pairwise fits xs ys) f))
 
 -- one group more of each
 pub table-next : (xs ys : List Group) (i : ℕ) (g h : Group) → i < length xs → i < length ys

@@ -10,7 +10,8 @@ use lib.Seq.{take_all, length-take-le}
 use Rattle.model.specs.declared.Group.{Group}
 use Rattle.model.specs.declared.Constraint.{Constraint}
 use Rattle.model.specs.declared.Model.{Model}
-use Rattle.model.specs.Lists.{every, pairwise, stop}
+use Rattle.std.specs.List.{list_all}
+use Rattle.model.specs.Lists.{pairwise, stop}
 use Rattle.model.specs.Limits.{limits}
 use Rattle.model.specs.Model.{table_of, constraints_of, constraint_sized, Whole, group_in_range, constraint_in_range, in_range}
 use Rattle.model.specs.Solution.{allowed, constraint_true, is_solution}
@@ -137,19 +138,19 @@ module _ (a b : Model) (v : Whole a) (w : Whole b) (f : Fitting a b) where
   unfolding is_solution
   both-draws d =
       ap₂ ◌&&◌ (ap (λ t. pairwise allowed t d) (table a b) ∙ table-draws (table_of a) (table_of b) d same_length)
-      (ap (every (constraint_true d)) (lines a b) ∙ every_append (constraint_true d) (constraints_of a) (constraints_of b))
-      ∙ and_interchange (pairwise allowed (table_of a) d) (pairwise allowed (table_of b) d) (every (constraint_true d) (constraints_of a)) (every (constraint_true d) (constraints_of b))
+      (ap (list_all (constraint_true d)) (lines a b) ∙ every_append (constraint_true d) (constraints_of a) (constraints_of b))
+      ∙ and_interchange (pairwise allowed (table_of a) d) (pairwise allowed (table_of b) d) (list_all (constraint_true d) (constraints_of a)) (list_all (constraint_true d) (constraints_of b))
 
-  every-line : (p : Constraint → Bool) → T (every p (constraints_of a)) → T (every p (constraints_of b)) → T (every p (constraints_of (both_of a b)))
+  every-line : (p : Constraint → Bool) → T (list_all p (constraints_of a)) → T (list_all p (constraints_of b)) → T (list_all p (constraints_of (both_of a b)))
   every-line p s t =
-      subst T (sym (ap (every p) (lines a b) ∙ every_append p (constraints_of a) (constraints_of b)))
-      (and_both (every p (constraints_of a)) (every p (constraints_of b)) s t)
+      subst T (sym (ap (list_all p) (lines a b) ∙ every_append p (constraints_of a) (constraints_of b)))
+      (and_both (list_all p (constraints_of a)) (list_all p (constraints_of b)) s t)
 
-  groups-in-range : T (every (group_in_range a.n) (table_of (both_of a b)))
+  groups-in-range : T (list_all (group_in_range a.n) (table_of (both_of a b)))
   groups-in-range =
-      subst (λ (t : List Group). T (every (group_in_range a.n) t)) (sym (table a b))
+      subst (λ (t : List Group). T (list_all (group_in_range a.n) t)) (sym (table a b))
       (table-combined a.n (table_of a) (table_of b) ra.groups
-      (subst (λ (n : ℕ). T (every (group_in_range n) (table_of b))) (sym f.entrants) rb.groups) f.fit)
+      (subst (λ (n : ℕ). T (list_all (group_in_range n) (table_of b))) (sym f.entrants) rb.groups) f.fit)
 
   both-in-range : T (in_range (both_of a b))
   both-in-range =
@@ -163,7 +164,7 @@ module _ (a b : Model) (v : Whole a) (w : Whole b) (f : Fitting a b) where
         groups = groups-in-range;
         constraints =
             every-line (constraint_in_range a.s) ra.constraints
-            (subst (λ (s : ℕ). T (every (constraint_in_range s) (constraints_of b))) (sym f.groups) rb.constraints);
+            (subst (λ (s : ℕ). T (list_all (constraint_in_range s) (constraints_of b))) (sym f.groups) rb.constraints);
       })
 
   both-accurate : Accurate (both_of a b)
@@ -186,4 +187,4 @@ combines a b v w = record {
 }
   where
     allowed_of : (m : Model) (d : List ℕ) → T (is_solution m d) → T (pairwise allowed (table_of m) d)
-    allowed_of m d s = unfold is_solution in and_left (pairwise allowed (table_of m) d) (every (constraint_true d) (constraints_of m)) s
+    allowed_of m d s = unfold is_solution in and_left (pairwise allowed (table_of m) d) (list_all (constraint_true d) (constraints_of m)) s

@@ -9,7 +9,8 @@ use lib.ListN.{length, take, replicate, length-map}
 use lib.Seq.{take_at, length-take-le}
 use Rattle.model.specs.declared.Constraint.{Constraint}
 use Rattle.model.specs.declared.Model.{Model}
-use Rattle.model.specs.Lists.{every, pairwise, each, range}
+use Rattle.std.specs.List.{list_all, flat_map}
+use Rattle.model.specs.Lists.{pairwise, range}
 use Rattle.model.specs.Limits.{limits}
 use Rattle.model.specs.Clauses.{member_count, groups_of}
 use Rattle.model.specs.Model.{zero_group, zero_constraint, table_of, constraints_of, group_at, constraint_sized, constraint_in_range, in_range}
@@ -59,7 +60,7 @@ module _ (c : Constraint) (h : Long c) where
 
 -- ---- some constraints
 
-all_true_lem : (d : List ℕ) (cs : List Constraint) → All Long cs → every (constraint_true d) (map clean_constraint cs) ≡ every (constraint_true d) cs
+all_true_lem : (d : List ℕ) (cs : List Constraint) → All Long cs → list_all (constraint_true d) (map clean_constraint cs) ≡ list_all (constraint_true d) cs
 all_true_lem d [] a = refl
 all_true_lem d (c ∷ cs) a = ap₂ ◌&&◌ (same-meaning c a.0 d) (all_true_lem d cs a.1)
 
@@ -95,12 +96,12 @@ module _ (m : Model) (w : Accurate m) where
   unfolding is_solution
   clean-draws d =
       ap₂ ◌&&◌ (ap (λ t. pairwise allowed t d) same-table)
-      (ap (every (constraint_true d)) same-constraints ∙ all_true_lem d (constraints_of m) long)
+      (ap (list_all (constraint_true d)) same-constraints ∙ all_true_lem d (constraints_of m) long)
 
   clean-text : sheet_text (clean_model m) ≡ sheet_text m
   unfolding sheet_text sheet_fields head_fields clean_model
   clean-text =
-      ap₂ (λ t cs. each line_text (head_fields m ∷ map (λ g. group_fields m.n g (group_at t g)) (range 1 m.s) ++ cs)) same-table
+      ap₂ (λ t cs. flat_map line_text (head_fields m ∷ map (λ g. group_fields m.n g (group_at t g)) (range 1 m.s) ++ cs)) same-table
       (ap (map constraint_fields) same-constraints ∙ all_fields (constraints_of m) long)
 
   pub clean-accepted : Accepted (sheet_text (clean_model m)) (clean_model m)

@@ -13,25 +13,26 @@ use model::{Combined, Constraint, Group, Model};
 
 // ---- groups
 
-fn combined_group(a: Group, b: Group) -> Group
-    ensures { result ≡ combined_group a b }
+#[tactic(auto, unfolding(model::specs::Combine::combined_group))]
+fn combined_group(a: &Group, b: &Group) -> Group
+    ensures { result ≡ combined_group a.now b.now }
 {
     Group {
         fixed: a.fixed | b.fixed,
         possible: a.possible & b.possible,
-        low: group_rule::larger(a.low, b.low),
-        high: group_rule::smaller(a.high, b.high),
+        low: a.low.max(b.low),
+        high: a.high.min(b.high),
     }
 }
 
 // The first s groups, then zeros.
 fn combined_groups(
-    a: [Group; Model::GROUPS],
-    b: [Group; Model::GROUPS],
+    a: &[Group; Model::GROUPS],
+    b: &[Group; Model::GROUPS],
     s: usize,
 ) -> [Group; Model::GROUPS]
     requires { s ≤ limits.groups }
-    ensures { result ≡ combined_table (take s a) (take s b) ++ replicate (limits.groups - s) zero_group }
+    ensures { result ≡ combined_table (take s a.now) (take s b.now) ++ replicate (limits.groups - s) zero_group }
 {
     let none = Group {
         fixed: 0,
@@ -40,12 +41,8 @@ fn combined_groups(
         high: 0,
     };
     let mut groups = [none; Model::GROUPS];
-    let mut i: usize = 0;
-    while i < s {
-        let x = a[i];
-        let y = b[i];
-        groups[i] = combined_group(x, y);
-        i += 1;
+    for i in 0..s {
+        groups[i] = combined_group(&a[i], &b[i]);
     }
     groups
 }
@@ -53,24 +50,20 @@ fn combined_groups(
 // ---- constraints
 
 // The first k of a constraint's groups, then zeros.
-fn clean_members(ids: [u32; Model::MEMBERS], k: usize) -> [u32; Model::MEMBERS]
-    ensures { result ≡ take k ids ++ replicate (limits.members - k) 0 }
+fn clean_members(ids: &[u32; Model::MEMBERS], k: usize) -> [u32; Model::MEMBERS]
+    ensures { result ≡ take k ids.now ++ replicate (limits.members - k) 0 }
 {
-    let mut members = ids;
-    let mut i = k;
-    while i < Model::MEMBERS {
-        members[i] = 0;
-        i += 1;
-    }
+    let mut members = *ids;
+    members[k.min(Model::MEMBERS)..].fill(0);
     members
 }
 
 // A constraint as the reader would give it.
-fn clean(c: Constraint) -> Constraint
-    ensures { result ≡ clean_constraint c }
+#[tactic(auto, unfolding(model::specs::SheetText::clean_constraint, model::specs::Clauses::groups_of))]
+fn clean(c: &Constraint) -> Constraint
+    ensures { result ≡ clean_constraint c.now }
 {
-    let ids = c.groups;
-    let groups = clean_members(ids, range::member_count(c.code, c.count));
+    let groups = clean_members(&c.groups, range::member_count(c.code, c.count));
     if c.code == 6 {
         return Constraint {
             code: c.code,
@@ -87,13 +80,13 @@ fn clean(c: Constraint) -> Constraint
 
 // The first k constraints of a and the first l of b, then zeros.
 fn combined_constraints(
-    a: [Constraint; Model::CONSTRAINTS],
+    a: &[Constraint; Model::CONSTRAINTS],
     k: usize,
-    b: [Constraint; Model::CONSTRAINTS],
+    b: &[Constraint; Model::CONSTRAINTS],
     l: usize,
 ) -> [Constraint; Model::CONSTRAINTS]
     requires { k + l ≤ limits.constraints }
-    ensures { result ≡ map clean_constraint (take k a ++ take l b) ++ replicate (limits.constraints - (k + l)) zero_constraint }
+    ensures { result ≡ map clean_constraint (take k a.now ++ take l b.now) ++ replicate (limits.constraints - (k + l)) zero_constraint }
 {
     let none = Constraint {
         code: 0,
@@ -101,17 +94,11 @@ fn combined_constraints(
         groups: [0; Model::MEMBERS],
     };
     let mut constraints = [none; Model::CONSTRAINTS];
-    let mut i: usize = 0;
-    while i < k {
-        let x = a[i];
-        constraints[i] = clean(x);
-        i += 1;
+    for i in 0..k {
+        constraints[i] = clean(&a[i]);
     }
-    let mut j: usize = 0;
-    while j < l {
-        let y = b[j];
-        constraints[k + j] = clean(y);
-        j += 1;
+    for j in 0..l {
+        constraints[k + j] = clean(&b[j]);
     }
     constraints
 }
@@ -119,8 +106,9 @@ fn combined_constraints(
 // ---- where two sheets clash
 
 // Whether no mark that one bars is fixed by the other, and no low exceeds a high.
-fn fits(a: Group, b: Group) -> bool
-    ensures { result ≡ fits a b }
+#[tactic(auto, unfolding(model::specs::Combine::fits, model::specs::Words::inside))]
+fn fits(a: &Group, b: &Group) -> bool
+    ensures { result ≡ fits a.now b.now }
 {
     if a.fixed & b.possible != a.fixed {
         return false;
@@ -128,24 +116,23 @@ fn fits(a: Group, b: Group) -> bool
     if b.fixed & a.possible != b.fixed {
         return false;
     }
-    group_rule::larger(a.low, b.low) <= group_rule::smaller(a.high, b.high)
+    a.low.max(b.low) <= a.high.min(b.high)
 }
 
 // The first entrant of a word; 0 where it has none.
 fn first_entrant(w: u64) -> u32
     ensures { result ≡ first_entrant w }
 {
-    let mut e: u32 = 0;
-    while e < Model::WORD {
+    for e in 0..Model::WORD {
         if (w >> e) % 2 == 1 {
             return e + 1;
         }
-        e += 1;
     }
     0
 }
 
 // A group in which two sheets clash, and there the first entrant whom one bars and the other fixes; 0 where there is none.
+// No Option: the definition `clash_of` gives the zeros, and combine_sheets reads the fields.
 #[derive(Clone, Copy)]
 pub struct Clash {
     pub group: u32,
@@ -161,11 +148,12 @@ fn no_clash() -> Clash
     }
 }
 
-fn clash_in(g: u32, a: Group, b: Group) -> Clash
-    ensures { result ≡ clash_in g a b }
+#[tactic(auto, unfolding(crate::specs::Clash::clash_in))]
+fn clash_in(g: u32, a: &Group, b: &Group) -> Clash
+    ensures { result ≡ clash_in g a.now b.now }
 {
-    let first = a.fixed ^ (a.fixed & b.possible);
-    let second = b.fixed ^ (b.fixed & a.possible);
+    let first = model::without(a.fixed, b.possible);
+    let second = model::without(b.fixed, a.possible);
     Clash {
         group: g,
         entrant: first_entrant(first | second),
@@ -173,23 +161,18 @@ fn clash_in(g: u32, a: Group, b: Group) -> Clash
 }
 
 // The first clash of the first s groups of xs and the first t of ys.
-fn clash_among(xs: [Group; Model::GROUPS], s: usize, ys: [Group; Model::GROUPS], t: usize) -> Clash
-    ensures { result ≡ first_clash 1 (take s xs) (take t ys) }
+fn clash_among(
+    xs: &[Group; Model::GROUPS],
+    s: usize,
+    ys: &[Group; Model::GROUPS],
+    t: usize,
+) -> Clash
+    ensures { result ≡ first_clash 1 (take s xs.now) (take t ys.now) }
 {
-    let mut i: usize = 0;
-    while i < Model::GROUPS {
-        if s <= i {
-            return no_clash();
+    for i in 0..s.min(t).min(Model::GROUPS) {
+        if !fits(&xs[i], &ys[i]) {
+            return clash_in(i as u32 + 1, &xs[i], &ys[i]);
         }
-        if t <= i {
-            return no_clash();
-        }
-        let x = xs[i];
-        let y = ys[i];
-        if !fits(x, y) {
-            return clash_in(i as u32 + 1, x, y);
-        }
-        i += 1;
     }
     no_clash()
 }
@@ -198,9 +181,7 @@ fn clash_among(xs: [Group; Model::GROUPS], s: usize, ys: [Group; Model::GROUPS],
 pub fn first_clash(a: Model, b: Model) -> Clash
     ensures { result ≡ clash_of a b }
 {
-    let xs = a.groups;
-    let ys = b.groups;
-    clash_among(xs, a.s as usize, ys, b.s as usize)
+    clash_among(&a.groups, a.s as usize, &b.groups, b.s as usize)
 }
 
 // ---- two models
@@ -239,16 +220,17 @@ fn combined_model(a: Model, b: Model) -> Model
     requires { (a.s ≤ limits.groups) × (a.s ≡ b.s) × (a.c + b.c ≤ limits.constraints) }
     ensures { result ≡ combined_model a b }
 {
-    let xs = a.groups;
-    let ys = b.groups;
-    let cs = a.constraints;
-    let ds = b.constraints;
     Model {
         n: a.n,
         s: a.s,
         c: a.c + b.c,
-        groups: combined_groups(xs, ys, a.s as usize),
-        constraints: combined_constraints(cs, a.c as usize, ds, b.c as usize),
+        groups: combined_groups(&a.groups, &b.groups, a.s as usize),
+        constraints: combined_constraints(
+            &a.constraints,
+            a.c as usize,
+            &b.constraints,
+            b.c as usize,
+        ),
     }
 }
 

@@ -30,36 +30,17 @@ fn print_combined(to: Streams, a: Model, b: Model) {
     print_sheet(to, r.model);
 }
 
-// Whether there is a sheet, and its model; zeros where there is none.
-#[derive(Clone, Copy)]
-struct Taken {
-    good: bool,
-    model: Model,
-}
-
-fn none() -> Taken {
-    Taken {
-        good: false,
-        model: Model::zero(),
-    }
-}
-
-// The sheet that argument i names. Where there is none, or it is refused, that is said, with its name.
-fn take_sheet(rt: &(impl Files + Env), to: Streams, i: usize, missing: Notice) -> Taken {
+// The model of the sheet that argument i names. Where there is none, or it is refused, that is said, with its name.
+fn take_sheet(rt: &(impl Files + Env), to: Streams, i: usize, missing: Notice) -> Option<Model> {
     let mut space = console::sheet_room();
-    let opened = console::open_sheet(rt, to.err, i, missing, &mut space);
-    if !opened.good {
-        return none();
-    }
-    let n = opened.length;
+    let n = console::open_sheet(rt, to.err, i, missing, &mut space)?;
     let r = sheet::read_sheet(&space[..n]);
     if r.refusal != 0 {
         console::warn_of(rt, to.err, i);
         console::warn(to, report::refused_at(r.refusal, r.line));
-        return none();
+        return None;
     }
-    let model = r.model;
-    Taken { good: true, model }
+    Some(r.model)
 }
 
 fn main(rt: HostRuntime) {
@@ -67,13 +48,11 @@ fn main(rt: HostRuntime) {
         out: rt.stdout(),
         err: rt.stderr(),
     };
-    let a = take_sheet(&rt, to, 1, Notice::FirstSheet);
-    if !a.good {
+    let Some(a) = take_sheet(&rt, to, 1, Notice::FirstSheet) else {
         return;
-    }
-    let b = take_sheet(&rt, to, 2, Notice::SecondSheet);
-    if !b.good {
+    };
+    let Some(b) = take_sheet(&rt, to, 2, Notice::SecondSheet) else {
         return;
-    }
-    print_combined(to, a.model, b.model);
+    };
+    print_combined(to, a, b);
 }

@@ -5,23 +5,13 @@ ghost use Rattle.std.specs.Prelude.{ℕ, ◌+◌, ◌≤◌, ◌<◌, ◌≡◌,
 ghost use Rattle.refutation.specs.Sound.{Keeps};
 ghost use Rattle.compaction.specs.Walk.{Walk, MovedDown};
 
-use refutation::State;
-
-fn wide(x: u32) -> usize
-    ensures { result ≡ x }
-{
-    x as usize
-}
+use refutation::{Reason, State};
 
 fn move_down(store: &mut [u32], from: usize, to: usize, n: usize)
     requires { (to ≤ from) × (from + n ≤ length store.old) }
     ensures { MovedDown from to n store.old store.new }
 {
-    let mut k: usize = 0;
-    while k < n {
-        store[to + k] = store[from + k];
-        k += 1;
-    }
+    store.copy_within(from..from + n, to);
 }
 
 // The clause of n words at `from` moves to `to`, unless it is forgotten; the next one goes to the place answered.
@@ -30,11 +20,11 @@ fn move_clause(store: &mut [u32], index: &mut [u32], from: usize, to: usize, n: 
     ensures lower_bound { (to ≤ result) × (result ≤ from + 2 + n) }
     ensures walk { 1 ≤ from → (a : List Bool) (top : ℕ) → from < top → Walk a from to top store.old index.old → Walk a (from + 2 + n) result top store.new index.new }
 {
-    let i = wide(store[from]);
+    let i = store[from] as usize;
     if index.len() <= i {
         return to;
     }
-    if wide(index[i]) != from {
+    if index[i] as usize != from {
         return to;
     }
     move_down(store, from, to, n + 2);
@@ -69,21 +59,17 @@ pub fn compact(s: State, store: &mut [u32], index: &mut [u32], marks: &[u32]) ->
     let mut from: usize = 1;
     let mut to: usize = 1;
     while from < top {
-        let n = wide(store[from + 1]);
+        let n = store[from + 1] as usize;
         if top - from < n + 2 {
-            return refutation::refuse(s, State::STORE_FULL);
+            return refutation::refuse(s, Reason::StoreFull);
         }
         to = move_clause(store, index, from, to, n);
         from = from + 2 + n;
     }
     State {
-        refusal: s.refusal,
-        refuted: s.refuted,
-        proved: s.proved,
-        id: s.id,
         top: to,
         at: to + 2,
-        stamp: s.stamp,
         dead: 0,
+        ..s
     }
 }

@@ -1,6 +1,7 @@
 // What the programs share at their edge, the calls that write and read: no contract says what these do.
 #![tactic(auto)]
 
+ghost use Rattle.std.specs.Option.{ForSome};
 ghost use Rattle.std.specs.Prelude.{◌+◌, ◌≡◌, ◌≤◌, length};
 ghost use Rattle.console.specs.Counts.{IsPrefixLen};
 ghost use Rattle.model.specs.Limits.{limits};
@@ -178,22 +179,6 @@ pub fn read_sheet(input: Stdin, buf: &mut [u8]) -> usize
     read_input(input, buf)
 }
 
-// Whether there is a sheet, and how many of its bytes are in the buffer that was lent.
-#[derive(Clone, Copy)]
-pub struct Opened {
-    pub good: bool,
-    pub length: usize,
-}
-
-fn nothing() -> Opened
-    ensures { result.length ≡ 0 }
-{
-    Opened {
-        good: false,
-        length: 0,
-    }
-}
-
 // The numbers of the system's errors for an argument that is missing, for one that is too long, and for bytes that are no text.
 const MISSING: i32 = 22;
 
@@ -241,15 +226,16 @@ fn fail_at(err: Stderr, m: Message, error: io::Error) {
     fail(err, &bytes[..n], error);
 }
 
-// The sheet of the file that argument k names, in buf from its start. Where there is none, that is said; `missing` names an argument that is not there.
+// The sheet of the file that argument k names, in buf from its start, and how many bytes it has. Where there is none, that is said; `missing` names an
+// argument that is not there.
 pub fn open_sheet(
     rt: &(impl Files + Env),
     err: Stderr,
     k: usize,
     missing: Notice,
     buf: &mut [u8],
-) -> Opened
-    ensures { IsPrefixLen result.length buf.new }
+) -> Option<usize>
+    ensures { ForSome result (λ n. IsPrefixLen n buf.new) }
 {
     let mut path = buffer();
     let length = match rt.arg(k, &mut path) {
@@ -260,7 +246,7 @@ pub fn open_sheet(
                 report::noted(missing),
                 io::Error::from_raw_os_error(MISSING),
             );
-            return nothing();
+            return None;
         }
         Err(FillError::TooLong) => {
             fail_at(
@@ -268,21 +254,18 @@ pub fn open_sheet(
                 report::noted(missing),
                 io::Error::from_raw_os_error(TOO_LONG),
             );
-            return nothing();
+            return None;
         }
     };
     let Ok(name) = str::from_utf8(&path[..length]) else {
         fail(err, &path[..length], io::Error::from_raw_os_error(NO_TEXT));
-        return nothing();
+        return None;
     };
     match File::open(rt, name) {
-        Ok(mut file) => Opened {
-            good: true,
-            length: read_full(&mut file, buf),
-        },
+        Ok(mut file) => Some(read_full(&mut file, buf)),
         Err(e) => {
             fail(err, &path[..length], e);
-            nothing()
+            None
         }
     }
 }

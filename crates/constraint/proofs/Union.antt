@@ -12,9 +12,9 @@ use Rattle.model.specs.Lists.{range}
 use Rattle.model.specs.Clauses.{union_clauses}
 use Rattle.model.proofs.Lists.{range_length, get_or-map-range}
 
-pub union-count : (k : ℕ) → length (union_clauses k) ≡ k + 1
+pub union_count : (k : ℕ) → length (union_clauses k) ≡ k + 1
 unfolding union_clauses
-union-count k = simp (length-map, range_length) (omega arith)
+union_count k = simp (length-map, range_length) (omega arith)
 
 -- the clause of all members
 members : ℕ → List Literal
@@ -52,7 +52,7 @@ pair k zero f h = absurd (f refl)
 pair k (suc i) f h = get_or-map-range (λ i. Neg i ∷ Pos 0 ∷ []) 1 k i [] h ∙ ap (λ (x : ℕ). Neg x ∷ Pos 0 ∷ []) (one-add i)
 
 pub past_pairs : (k j : ℕ) → k < j → get_or (union_clauses k) j [] ≡ []
-past_pairs k j h = get_or-eq_default (union_clauses k) [] (omega (arith, union-count k))
+past_pairs k j h = get_or-eq_default (union_clauses k) [] (omega (arith, union_count k))
 
 pub pair-first : (k j i : ℕ) → (j ≡ 0 → ⊥) → j ≤ k → i ≡ 0 → get_or (get_or (union_clauses k) j []) i (Pos 0) ≡ Neg j
 pair-first k j i f h e = ap (λ l. get_or l i (Pos 0)) (pair k j f h) ∙ rw e

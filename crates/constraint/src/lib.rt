@@ -1,62 +1,51 @@
 // The table of document 01's "Lines and their clauses", over the members of a constraint: propagation, block writer and closing read it here.
 #![tactic(auto)]
 
-ghost use Rattle.std.specs.Prelude.{◌≡◌, [], ◌<◌, T, length, get_or};
+ghost use Rattle.std.specs.Prelude.{◌≡◌, [], length, get_or};
 ghost use Rattle.model.specs.declared.Literal.TheVariants.{Pos};
 ghost use Rattle.model.specs.Clauses.{short_clauses, union_clauses, member_clauses};
-ghost use Rattle.constraint.specs.Coded.{codes};
 
-use model::Literal;
-
-// The clauses of each code but 6.
-const CLAUSES: [usize; 8] = [0, 2, 1, 3, 3, 3, 0, 4];
-
-// The literals of the first of them, and of each later one.
-const FIRST_SIZES: [usize; 8] = [0, 2, 2, 3, 3, 3, 0, 3];
-
-const LATER_SIZES: [usize; 8] = [0, 2, 0, 2, 2, 2, 0, 3];
-
-// The literals by code, three places to a clause: twice the member, and 1 more where it is negated.
-const EQUAL: [u32; 12] = [1, 2, 0, 0, 3, 0, 0, 0, 0, 0, 0, 0];
-
-const WITHIN: [u32; 12] = [1, 2, 0, 0, 0, 0, 0, 0, 0, 0, 0, 0];
-
-const BOTH: [u32; 12] = [3, 5, 0, 2, 1, 0, 4, 1, 0, 0, 0, 0];
-
-const EITHER: [u32; 12] = [2, 4, 1, 3, 0, 0, 5, 0, 0, 0, 0, 0];
-
-const LESS: [u32; 12] = [3, 4, 0, 2, 1, 0, 5, 1, 0, 0, 0, 0];
-
-// Its member 2 is no group but the variable X of the entrant.
-const DIFFERENT: [u32; 12] = [1, 3, 5, 0, 2, 5, 1, 2, 4, 0, 3, 4];
+use model::Literal::{self, Neg, Pos};
 
 // How many clauses a code has; k is the count of code 6.
+#[tactic(auto, unfolding(model::specs::Clauses::short_clauses, model::specs::Clauses::member_clauses), using(crate::proofs::Union::union_count))]
 pub fn clause_count(code: u32, k: u32) -> usize
     ensures { result ≡ length (member_clauses code k) }
 {
-    if code == 6 {
-        return k as usize + 1;
+    match code {
+        1 => 2,
+        2 => 1,
+        3 | 4 | 5 => 3,
+        6 => k as usize + 1,
+        7 => 4,
+        _ => 0,
     }
-    if code < 8 {
-        return CLAUSES[code as usize];
-    }
-    0
 }
 
-fn short_size(code: u32, j: usize) -> usize
-    ensures { result ≡ length (get_or (short_clauses code) j []) }
+// Clause j of codes 1 to 5 and 7; empty where there is no such clause. Member 2 of code 7 is no group but the variable X of the entrant.
+#[tactic(auto, unfolding(model::specs::Clauses::short_clauses))]
+fn short_clause(code: u32, j: usize) -> &'static [Literal]
+    ensures { result.now ≡ get_or (short_clauses code) j [] }
 {
-    if 8 <= code {
-        return 0;
+    match (code, j) {
+        (1, 0) => &[Neg(0), Pos(1)],
+        (1, 1) => &[Pos(0), Neg(1)],
+        (2, 0) => &[Neg(0), Pos(1)],
+        (3, 0) => &[Neg(1), Neg(2), Pos(0)],
+        (3, 1) => &[Pos(1), Neg(0)],
+        (3, 2) => &[Pos(2), Neg(0)],
+        (4, 0) => &[Pos(1), Pos(2), Neg(0)],
+        (4, 1) => &[Neg(1), Pos(0)],
+        (4, 2) => &[Neg(2), Pos(0)],
+        (5, 0) => &[Neg(1), Pos(2), Pos(0)],
+        (5, 1) => &[Pos(1), Neg(0)],
+        (5, 2) => &[Neg(2), Neg(0)],
+        (7, 0) => &[Neg(0), Neg(1), Neg(2)],
+        (7, 1) => &[Pos(0), Pos(1), Neg(2)],
+        (7, 2) => &[Neg(0), Pos(1), Pos(2)],
+        (7, 3) => &[Pos(0), Neg(1), Pos(2)],
+        _ => &[],
     }
-    let i = code as usize;
-    if CLAUSES[i] <= j {
-        return 0;
-    }
-    if j == 0 {
-        return FIRST_SIZES[i];
-    }
-    LATER_SIZES[i]
 }
 
 fn union_size(k: u32, j: usize) -> usize
@@ -72,55 +61,14 @@ fn union_size(k: u32, j: usize) -> usize
 }
 
 // How many literals clause j has; none where there is no such clause.
+#[tactic(auto, unfolding(model::specs::Clauses::member_clauses))]
 pub fn literal_count(code: u32, k: u32, j: usize) -> usize
     ensures { result ≡ length (get_or (member_clauses code k) j []) }
 {
     if code == 6 {
         return union_size(k, j);
     }
-    short_size(code, j)
-}
-
-fn short_code(code: u32, j: usize, i: usize) -> u32
-    requires { (j < 4) × (i < 3) }
-    ensures { T (codes result (get_or (get_or (short_clauses code) j []) i (Pos 0))) }
-{
-    let at = j * 3 + i;
-    if code == 1 {
-        return EQUAL[at];
-    }
-    if code == 2 {
-        return WITHIN[at];
-    }
-    if code == 3 {
-        return BOTH[at];
-    }
-    if code == 4 {
-        return EITHER[at];
-    }
-    if code == 5 {
-        return LESS[at];
-    }
-    if code == 7 {
-        return DIFFERENT[at];
-    }
-    0
-}
-
-fn short_literal(code: u32, j: usize, i: usize) -> Literal
-    ensures { result ≡ get_or (get_or (short_clauses code) j []) i (Pos 0) }
-{
-    if 4 <= j {
-        return Literal::Pos(0);
-    }
-    if 3 <= i {
-        return Literal::Pos(0);
-    }
-    let x = short_code(code, j, i);
-    if x % 2 == 0 {
-        return Literal::Pos(x / 2);
-    }
-    Literal::Neg(x / 2)
+    short_clause(code, j).len()
 }
 
 // The clause of all members.
@@ -128,12 +76,12 @@ fn long_literal(k: u32, i: usize) -> Literal
     ensures { result ≡ get_or (get_or (union_clauses k) 0 []) i (Pos 0) }
 {
     if i < k as usize {
-        return Literal::Pos(i as u32 + 1);
+        return Pos(i as u32 + 1);
     }
     if i == k as usize {
-        return Literal::Neg(0);
+        return Neg(0);
     }
-    Literal::Pos(0)
+    Pos(0)
 }
 
 fn union_literal(k: u32, j: usize, i: usize) -> Literal
@@ -143,20 +91,21 @@ fn union_literal(k: u32, j: usize, i: usize) -> Literal
         return long_literal(k, i);
     }
     if (k as usize) < j {
-        return Literal::Pos(0);
+        return Pos(0);
     }
     if i == 0 {
-        return Literal::Neg(j as u32);
+        return Neg(j as u32);
     }
-    Literal::Pos(0)
+    Pos(0)
 }
 
 // Literal i of clause j; "in member 0" where there is none.
+#[tactic(auto, unfolding(model::specs::Clauses::member_clauses))]
 pub fn literal_at(code: u32, k: u32, j: usize, i: usize) -> Literal
     ensures { result ≡ get_or (get_or (member_clauses code k) j []) i (Pos 0) }
 {
     if code == 6 {
         return union_literal(k, j, i);
     }
-    short_literal(code, j, i)
+    short_clause(code, j).get(i).copied().unwrap_or(Pos(0))
 }

@@ -1,14 +1,13 @@
 -- Laws of a code's meaning: the union member by member, and the sets of the first members. Assumes nothing.
-use mathlib.Core.Path.{◌≡◌, refl, sym, ap, ◌∙◌}
-use mathlib.Core.Bool.{Bool, true, false, not}
-use mathlib.Core.List.{List, [], ◌∷◌, map}
+use mathlib.Core.Path.{◌≡◌, sym, ap, ◌∙◌}
+use mathlib.Core.Bool.{Bool, not}
+use mathlib.Core.List.{List, map}
 use Prim.Native.Nat.{ℕ, ◌+◌, ◌≤◌, ◌<◌}
 use native.Mathlib.Omega.{arith}
-use lib.Bits.{bit_and, bit_or, bit_xor, or_zero_r}
-use lib.Dec.{leb, eqb}
-use lib.ListN.{length, get_or, take, drop, length-take, length-map, drop_of_length-le, get_or-eq_default}
+use lib.Bits.{bit_and, bit_or, or_zero_r}
+use lib.Dec.{eqb}
+use lib.ListN.{length, get_or, take, drop, length-take, length-map, drop_of_length-le}
 use lib.Seq.{get_or-take}
-use borrow.Author.Tests.{leb-true, leb-false}
 use Rattle.model.specs.Limits.{limits}
 use Rattle.model.specs.Words.{less, inside}
 use Rattle.model.specs.Clauses.{member_count}
@@ -86,31 +85,6 @@ module _ (d ids : List ℕ) (code k : ℕ) (wide : length ids ≡ limits.members
       unfolding meaning member_count
       says-4 e = rw (e, p, q, r, first d ids 3 0 (omega arith) (omega arith), first d ids 3 1 (omega arith) (omega arith), first d ids 3 2 (omega arith) (omega arith))
 
-      pub says-5 : code ≡ 5 → Says (eqb a (bit_xor b (bit_and b c)))
-      unfolding meaning member_count less
-      says-5 e = rw (e, p, q, r, first d ids 3 0 (omega arith) (omega arith), first d ids 3 1 (omega arith) (omega arith), first d ids 3 2 (omega arith) (omega arith))
-
--- no such code
-none_but : (code n : ℕ) → code < n + 1 → (code ≡ n → ⊥) → code < n
-none_but code n h k = omega arith
-
-only_zero : (code : ℕ) → code < 1 → code ≡ 0
-only_zero code h = omega arith
-
-none_such : (code : ℕ) (ws : List ℕ) → (code < 8 → code ≡ 0) → false ≡ meaning code ws
-unfolding meaning
-none_such code ws h =
-    let a = get_or ws 0 0 in
-    let b = get_or ws 1 0 in
-    let c = get_or ws 2 0 in
-    go (false ∷ eqb a b ∷ inside a b ∷ eqb a (bit_and b c) ∷ eqb a (bit_or b c) ∷ eqb a (less b c) ∷ eqb a (union (drop 1 ws)) ∷ not (eqb a b) ∷ []) refl refl (leb 8 code) refl
-  where
-    go : (bs : List Bool) → length bs ≡ 8 → get_or bs 0 false ≡ false → (t : Bool) → leb 8 code ≡ t → false ≡ get_or bs code false
-    go bs l z true e = sym (get_or-eq_default bs false (omega (arith, leb-true 8 code e)))
-    go bs l z false e = sym (ap (λ (i : ℕ). get_or bs i false) (h (leb-false 8 code e)) ∙ z)
-
-pub says_none : (code : ℕ) (ws : List ℕ) → (code ≡ 1 → ⊥) → (code ≡ 2 → ⊥) → (code ≡ 3 → ⊥) → (code ≡ 4 → ⊥) → (code ≡ 5 → ⊥) → (code ≡ 6 → ⊥)
-    → (code ≡ 7 → ⊥) → false ≡ meaning code ws
-says_none code ws a b c d e f g =
-    none_such code ws
-    (λ h. only_zero code (none_but code 1 (none_but code 2 (none_but code 3 (none_but code 4 (none_but code 5 (none_but code 6 (none_but code 7 h g) f) e) d) c) b) a))
+      pub says-5 : code ≡ 5 → (x : ℕ) → x ≡ less b c → Says (eqb a x)
+      unfolding meaning member_count
+      says-5 e x s = rw (e, s, p, q, r, first d ids 3 0 (omega arith) (omega arith), first d ids 3 1 (omega arith) (omega arith), first d ids 3 2 (omega arith) (omega arith))

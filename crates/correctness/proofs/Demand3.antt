@@ -16,7 +16,8 @@ use Rattle.model.specs.declared.Group.{Group}
 use Rattle.model.specs.declared.Model.{Model}
 use Rattle.model.specs.declared.Written.{Written}
 use Rattle.model.specs.declared.Written.TheVariants.{Bytes, Refused}
-use Rattle.model.specs.Lists.{every, pairwise, between, stop}
+use Rattle.std.specs.List.{list_all}
+use Rattle.model.specs.Lists.{pairwise, between, stop}
 use Rattle.model.specs.Limits.{limits}
 use Rattle.model.specs.Model.{table_of, constraints_of, members_sized}
 use Rattle.model.specs.Propagate.{propagated, consistent, Settled}
@@ -48,7 +49,7 @@ module _ (q : Model) (s : Settled q) (values : List ℕ) (fresh : T (is_fresh q 
 
   -- the refusals left at closing: 27 and 28
   close-chain : close_refusal q (reading_after lines fresh_reading values) (values_after_all lines fresh_reading values)
-      ≡ stop (not ((said_after q lines).closed && every is_said (values_after_all lines fresh_reading values))) 27
+      ≡ stop (not ((said_after q lines).closed && list_all is_said (values_after_all lines fresh_reading values))) 27
       (stop (not (satisfying q (assignment_of (values_after_all lines fresh_reading values)))) 28 0)
   unfolding close_refusal
   close-chain =
@@ -73,22 +74,22 @@ module _ (q : Model) (s : Settled q) (values : List ℕ) (fresh : T (is_fresh q 
           → T (eqb (length a) (variable_count q) && satisfying q a) → closed_after q lines values ≡ record { refusal = 0; groups = closed_groups q a }
       closes' a t c s =
           let e : a ≡ assignment_of w = said-assignment (variable_count q) (said_after q lines).literals w end.holds a t in
-          let all : every is_said w ≡ true = T_true (every is_said w) (said_all (variable_count q) (said_after q lines).literals w end.holds a t) in
+          let all : list_all is_said w ≡ true = T_true (list_all is_said w) (said_all (variable_count q) (said_after q lines).literals w end.holds a t) in
           let sat : satisfying q (assignment_of w) ≡ true =
           ap (satisfying q) (sym e) ∙ T_true (satisfying q a) (and_right (eqb (length a) (variable_count q)) (satisfying q a) s) in
           let z : close_refusal q (reading_after lines fresh_reading values) w ≡ 0 = close-chain ∙ rw (c, all, sat) in
           rw (z, e)
 
       only' : close_refusal q (reading_after lines fresh_reading values) w ≡ 0 → Answer q values lines
-      only' z = go (said_after q lines).closed refl (every is_said w) refl (satisfying q (assignment_of w)) refl (sym close-chain ∙ z)
+      only' z = go (said_after q lines).closed refl (list_all is_said w) refl (satisfying q (assignment_of w)) refl (sym close-chain ∙ z)
         where
-          go : (c : Bool) → (said_after q lines).closed ≡ c → (d : Bool) → every is_said w ≡ d → (s : Bool) → satisfying q (assignment_of w) ≡ s
+          go : (c : Bool) → (said_after q lines).closed ≡ c → (d : Bool) → list_all is_said w ≡ d → (s : Bool) → satisfying q (assignment_of w) ≡ s
               → stop (not (c && d)) 27 (stop (not s) 28 0) ≡ 0 → Answer q values lines
           go false pc d pd s ps e = absurd (omega arith)
           go true pc false pd s ps e = absurd (omega arith)
           go true pc true pd false ps e = absurd (omega arith)
           go true pc true pd true ps e =
-              let t = values-say (variable_count q) (said_after q lines).literals w end.holds (true-T (every is_said w) pd) in
+              let t = values-say (variable_count q) (said_after q lines).literals w end.holds (true-T (list_all is_said w) pd) in
               record {
                 assignment = assignment_of w;
                 said = t;
@@ -102,10 +103,10 @@ module _ (q : Model) (s : Settled q) (values : List ℕ) (fresh : T (is_fresh q 
 
 -- ---- the listing, for any settled model in range
 
-between-all : (v : ℕ) (cs : List (List Literal)) → All (All (In 1 (suc v))) cs → T (every (every (λ l. between 1 v (variable l))) cs)
+between-all : (v : ℕ) (cs : List (List Literal)) → All (All (In 1 (suc v))) cs → T (list_all (list_all (λ l. between 1 v (variable l))) cs)
 between-all v cs h =
-    all-every (every (λ l. between 1 v (variable l))) cs
-    (all-imp (All (In 1 (suc v))) (λ c. T (every (λ l. between 1 v (variable l)) c))
+    all-every (list_all (λ l. between 1 v (variable l))) cs
+    (all-imp (All (In 1 (suc v))) (λ c. T (list_all (λ l. between 1 v (variable l)) c))
     (λ c k. all-every (λ l. between 1 v (variable l)) c
     (all-imp (In 1 (suc v)) (λ l. T (between 1 v (variable l))) (λ l r. and_both (leb 1 (variable l)) (leb (variable l) v) (le→leb 1 (variable l) r.0) (le→leb (variable l) v (omega (arith, r.1)))) c k))
     cs h)
@@ -147,9 +148,9 @@ written_listed m s b before after w ew ea z = go (eqb (block_refusal m b (length
 
 -- ---- an order has the sheet's solutions
 
-every_perm : {A : Type 0} (p : A → Bool) {l m : List A} → Permᴰ l m → every p l ≡ every p m
+every_perm : {A : Type 0} (p : A → Bool) {l m : List A} → Permᴰ l m → list_all p l ≡ list_all p m
 every_perm p {l} {m} d =
-    T-ext (every p l) (every p m) (λ t. all-every p m (all-perm (λ a. T (p a)) d (every-all p l t)))
+    T-ext (list_all p l) (list_all p m) (λ t. all-every p m (all-perm (λ a. T (p a)) d (every-all p l t)))
     (λ t. all-every p l (all-perm (λ a. T (p a)) (Permᴰ.symm d) (every-all p m t)))
 
 order-solutions : (m p : Model) → Reordered m p → (d : List ℕ) → is_solution m d ≡ is_solution p d

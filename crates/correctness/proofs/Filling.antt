@@ -11,7 +11,8 @@ use borrow.Author.Tests.{eq-eqb}
 use Rattle.model.specs.declared.Model.{Model}
 use Rattle.model.specs.declared.Reading.{Reading}
 use Rattle.model.specs.declared.Closed.{Closed}
-use Rattle.model.specs.Lists.{every, stop}
+use Rattle.std.specs.List.{list_all}
+use Rattle.model.specs.Lists.{stop}
 use Rattle.model.specs.Limits.{limits}
 use Rattle.model.specs.Model.{constraints_of, constraint_sized, members_sized, Whole, in_range}
 use Rattle.model.specs.Propagate.{is_fixpoint, Settled}
@@ -80,7 +81,7 @@ module _ (m : Model) (z : Whole m) where
     settled : Settled m
     sized : length values ≡ variable_count m
     closed : r.closed ≡ true
-    said : T (every is_said values)
+    said : T (list_all is_said values)
     satisfies : T (satisfying m (assignment_of values))
 
   closes-when : (r : Reading) (values : List ℕ) → close_refusal m r values ≡ 0 → Closes r values
@@ -88,13 +89,13 @@ module _ (m : Model) (z : Whole m) where
   closes-when r values e =
       let a = unsettled-other m _ 0 (λ q. omega arith) (λ q. omega arith) e in
       let b = not-refused (eqb (length values) (variable_count m)) 26 _ (λ q. omega arith) a.2 in
-      let c = not-refused (r.closed && every is_said values) 27 _ (λ q. omega arith) b.1 in
+      let c = not-refused (r.closed && list_all is_said values) 27 _ (λ q. omega arith) b.1 in
       let d = not-refused (satisfying m (assignment_of values)) 28 0 (λ q. omega arith) c.1 in
       record {
         settled = settled-whole a.0 a.1;
         sized = eqb→eq (length values) (variable_count m) b.0;
-        closed = T_true r.closed (and_left r.closed (every is_said values) c.0);
-        said = and_right r.closed (every is_said values) c.0;
+        closed = T_true r.closed (and_left r.closed (list_all is_said values) c.0);
+        said = and_right r.closed (list_all is_said values) c.0;
         satisfies = d.0;
       }
 
@@ -106,7 +107,7 @@ module _ (m : Model) (z : Whole m) where
       ∙ rw (
         eq-eqb (length values) (variable_count m) c.sized,
         c.closed,
-        T_true (every is_said values) c.said,
+        T_true (list_all is_said values) c.said,
         T_true (satisfying m (assignment_of values)) c.satisfies,
       ) in
       rw e
@@ -148,9 +149,9 @@ module _ (m : Model) (z : Whole m) where
     satisfies : T (is_satisfying m (assignment_of vs))
     satisfies = subst (λ (x : List Bool). T (is_satisfying m x)) (sym is-a) (unfold a in filled-satisfying m f.settled w g (unfold g in f.solution))
 
-    all_said : T (every is_said vs)
+    all_said : T (list_all is_said vs)
     unfolding vs
-    all_said = subst (λ (x : List ℕ). T (every is_said x)) (sym (filled_is d values e)) (values-said (assignment_for m (take m.s d)))
+    all_said = subst (λ (x : List ℕ). T (list_all is_said x)) (sym (filled_is d values e)) (values-said (assignment_for m (take m.s d)))
 
     vs-length : length vs ≡ variable_count m
     unfolding vs

@@ -1,12 +1,13 @@
 -- Demand 3 as one record over bytes: for every accepted sheet b, whose model is m, and every order o of it. A field for each sentence.
 -- It names only the definitions that the five contracts name: read_sheet, propagated, block_refusal and block_text, line_read and values_after, closed.
 use Rattle.std.specs.Prelude.{◌≡◌, ◌⊎◌, ℕ, ◌+◌, ◌*◌, ◌≤◌, Bool, true, List, [], T, length}
-use Rattle.std.proofs.Math.Option.{some}
+use Rattle.std.specs.Prelude.{Some}
 use Rattle.model.specs.declared.Group.{Group}
 use Rattle.model.specs.declared.Model.{Model}
 use Rattle.model.specs.declared.Propagated.{Propagated}
 use Rattle.model.specs.declared.Closed.{Closed}
-use Rattle.model.specs.Lists.{every, between}
+use Rattle.std.specs.List.{list_all}
+use Rattle.model.specs.Lists.{between}
 use Rattle.model.specs.Limits.{limits}
 use Rattle.model.specs.Model.{table_of}
 use Rattle.model.specs.Propagate.{propagated}
@@ -39,15 +40,15 @@ pub record Listing (q : Model) : Type 0 where
   -- every block is written into a buffer of 65,536 bytes
   pub written : (k : ℕ) → k ≤ block_count q → block_refusal q k limits.block ≡ 0
   -- block 0 says V and C of the formulas
-  pub header : read_dimacs (block_text q 0) ≡ some (record { variables = variable_count q; clause_count = clause_count q; clauses = [] })
+  pub header : read_dimacs (block_text q 0) ≡ Some (record { variables = variable_count q; clause_count = clause_count q; clauses = [] })
   -- all blocks, read as DIMACS text, are V, C and the clauses
-  pub reads : read_dimacs (listing q) ≡ some (record { variables = variable_count q; clause_count = clause_count q; clauses = clauses q })
+  pub reads : read_dimacs (listing q) ≡ Some (record { variables = variable_count q; clause_count = clause_count q; clauses = clauses q })
   -- exactly C of them
   pub count : length (clauses q) ≡ clause_count q
   -- "V is at most 59,392, code 7 lines included"
   pub few : variable_count q ≤ limits.variables
   -- no variable below 1 or above V
-  pub variables : T (every (every (λ l. between 1 (variable_count q) (variable l))) (clauses q))
+  pub variables : T (list_all (list_all (λ l. between 1 (variable_count q) (variable l))) (clauses q))
 
 -- ---- draws of the sheet and satisfying assignments of the listing match one for one
 pub record Matching (m q : Model) : Type 0 where

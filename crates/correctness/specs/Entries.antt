@@ -6,7 +6,7 @@ use Rattle.model.specs.declared.Model.{Model}
 use Rattle.model.specs.declared.Reading.{Reading}
 use Rattle.model.specs.declared.LineRead.{LineRead}
 use Rattle.model.specs.declared.Closed.{Closed}
-use Rattle.model.specs.Lists.{any}
+use Rattle.std.specs.List.{list_any}
 use Rattle.model.specs.Text.{block_text}
 use Rattle.model.specs.Assignment.{Said, is_said, variable, value_for}
 use Rattle.model.specs.Close.{groups_by, closed_groups}
@@ -26,7 +26,7 @@ pub record Listed (m : Model) (b size : ℕ) (buffer : List ℕ) : Type 0 where
 pub record Holds (v : ℕ) (said : List Literal) (values : List ℕ) : Type 0 where
   pub size : length values ≡ v
   pub held : All (λ l. (variable l ≤ v) × (1 ≤ variable l) × (get_or values (variable l - 1) 0 ≡ value_for l)) said
-  pub only : (i : ℕ) → i < v → is_said (get_or values i 0) ≡ any (λ k. eqb (variable k) (suc i)) said
+  pub only : (i : ℕ) → i < v → is_said (get_or values i 0) ≡ list_any (λ k. eqb (variable k) (suc i)) said
 
 -- the state after some lines is what they say
 pub record Matches (v : ℕ) (s : Said) (r : Reading) (values : List ℕ) : Type 0 where

@@ -3,7 +3,7 @@
 use Rattle.std.specs.Prelude.{◌≡◌, ℕ, ◌-◌, Bool, true, List, ◌++◌, T, length, take, replicate}
 use Rattle.model.specs.declared.Model.{Model}
 use Rattle.model.specs.declared.Reading.{Reading}
-use Rattle.model.specs.Lists.{every}
+use Rattle.std.specs.List.{list_all}
 use Rattle.model.specs.Limits.{limits}
 use Rattle.model.specs.Assignment.{is_said}
 use Rattle.model.specs.Close.{groups_by, assignment_of, closed}
@@ -17,7 +17,7 @@ closed_reading = record { closed = true }
 -- the values of a filling that is not refused
 pub record Filled (m : Model) (d values : List ℕ) : Type 0 where
   -- each is 1 or 2
-  pub said : T (every is_said (filled_values m d values))
+  pub said : T (list_all is_said (filled_values m d values))
   -- "the one satisfying assignment": it satisfies, it reads back as the groups, those past s ignored, and no other does both
   pub satisfying : T (is_satisfying m (assignment_of (filled_values m d values)))
   pub reads-back : groups_by m (assignment_of (filled_values m d values)) ≡ take m.s d

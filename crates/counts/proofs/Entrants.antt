@@ -14,7 +14,8 @@ use Rattle.model.specs.declared.Term.{Term}
 use Rattle.model.specs.declared.Term.TheVariants.{Holds, Fails, Open}
 use Rattle.model.specs.declared.Group.{Group}
 use Rattle.model.specs.declared.Constraint.{Constraint}
-use Rattle.model.specs.Lists.{every, any, each, range, total}
+use Rattle.std.specs.List.{list_all, list_any, flat_map}
+use Rattle.model.specs.Lists.{range, total}
 use Rattle.model.specs.Limits.{limits}
 use Rattle.model.specs.Clauses.{by_entrant, member_clauses}
 use Rattle.model.specs.Totalizer.{opposite_term, holds, keep}
@@ -33,11 +34,11 @@ use Rattle.counts.specs.Counts.{kept_count, entrant_count, constraint_count}
 -- ---- counting the clauses that are kept
 
 module _ (ns : List ℕ) (code count j : ℕ) where
-  pub left_out : any holds (clause_terms ns code count j) ≡ true → 0 ≡ kept_count ns code count j
+  pub left_out : list_any holds (clause_terms ns code count j) ≡ true → 0 ≡ kept_count ns code count j
   unfolding kept_count keep
   left_out e = rw e
 
-  pub counted-once : any holds (clause_terms ns code count j) ≡ false → 1 ≡ kept_count ns code count j
+  pub counted-once : list_any holds (clause_terms ns code count j) ≡ false → 1 ≡ kept_count ns code count j
   unfolding kept_count keep
   counted-once e = rw e
 
@@ -71,7 +72,7 @@ open_both x t = go (eqb x absent) (eqb x present) t
     go false true t = absurd t
     go true p t = absurd t
 
-module _ (ns : List ℕ) (k code count : ℕ) (w : MembersBelow k code count) (t : T (every (λ i. is_open (number_at ns i)) (range 0 k))) where
+module _ (ns : List ℕ) (k code count : ℕ) (w : MembersBelow k code count) (t : T (list_all (λ i. is_open (number_at ns i)) (range 0 k))) where
   open_at : (i : ℕ) → i < k → T (is_open (number_at ns i))
   open_at i h = every-range (λ i. is_open (number_at ns i)) 0 k t i (omega arith) (omega arith)
 
@@ -98,7 +99,7 @@ module _ (ns : List ℕ) (k code count : ℕ) (w : MembersBelow k code count) (t
 
 module _ (x : ℕ) (t : List Group) (c : Constraint) (ms : List Member) (k : ℕ) (says : Saying x t c ms k) (clear : is_apart t c ≡ false)
     (w : MembersBelow k c.code c.count) where
-  pub entrants-length : (n : ℕ) → n ≤ limits.entrants → length (each (clauses_at x t c) (range 0 n)) ≡ constraint_count ms c.code c.count n
+  pub entrants-length : (n : ℕ) → n ≤ limits.entrants → length (flat_map (clauses_at x t c) (range 0 n)) ≡ constraint_count ms c.code c.count n
   unfolding constraint_count entrant_count kept_count
   entrants-length n h =
       length-each (clauses_at x t c) (range 0 n)
@@ -106,11 +107,11 @@ module _ (x : ℕ) (t : List Group) (c : Constraint) (ms : List Member) (k : ℕ
       (λ e _ l. ap length (entrant-is x t c ms k says clear w e (omega arith)) ∙ length-each _ (range 0 (length (member_clauses c.code c.count))))
 
 module _ (t : List Group) (c : Constraint) where
-  pub six-length : T (by_entrant c.code) → (n k : ℕ) → length (each (clauses_at 0 t c) (range 0 n)) ≡ k → length (constraint_clauses n t 0 c) ≡ k
+  pub six-length : T (by_entrant c.code) → (n k : ℕ) → length (flat_map (clauses_at 0 t c) (range 0 n)) ≡ k → length (constraint_clauses n t 0 c) ≡ k
   unfolding constraint_clauses
   six-length six n k e =
-      ap (λ (l : List (List Literal)). length (each (clauses_at 0 t c) (range 0 n) ++ l)) (six-last t c six n 0)
-      ∙ length-append (each (clauses_at 0 t c) (range 0 n)) []
+      ap (λ (l : List (List Literal)). length (flat_map (clauses_at 0 t c) (range 0 n) ++ l)) (six-last t c six n 0)
+      ∙ length-append (flat_map (clauses_at 0 t c) (range 0 n)) []
       ∙ omega arith
 
   -- code 7, by the X numbered from 1 on
@@ -118,11 +119,11 @@ module _ (t : List Group) (c : Constraint) where
     pub apart-length : is_apart t c ≡ true → 0 ≡ length (constraint_clauses n t 0 c)
     apart-length e = sym (ap length (apart-clauses t c seven e n 0))
 
-    pub seven-length : All (SettledAmong n) t → is_apart t c ≡ false → (k : ℕ) → length (each (clauses_at 1 t c) (range 0 n)) ≡ k
+    pub seven-length : All (SettledAmong n) t → is_apart t c ≡ false → (k : ℕ) → length (flat_map (clauses_at 1 t c) (range 0 n)) ≡ k
         → k + 1 ≡ length (constraint_clauses n t 0 c)
     unfolding constraint_clauses
     seven-length s clear k e =
         sym (constraint-count t c 0 1 n
-        ∙ ap (λ (l : List (List Literal)). length (each (clauses_at 1 t c) (range 0 n) ++ l)) (last-is n 1 t s c (is_open_lem t c seven clear))
-        ∙ length-append (each (clauses_at 1 t c) (range 0 n)) (map Pos (range 1 (difference_count t c)) ∷ [])
+        ∙ ap (λ (l : List (List Literal)). length (flat_map (clauses_at 1 t c) (range 0 n) ++ l)) (last-is n 1 t s c (is_open_lem t c seven clear))
+        ∙ length-append (flat_map (clauses_at 1 t c) (range 0 n)) (map Pos (range 1 (difference_count t c)) ∷ [])
         ∙ omega arith)

@@ -4,15 +4,14 @@ use mathlib.Core.Bool.{true, false}
 use mathlib.Core.List.{List, [], ◌∷◌}
 use Prim.Native.Nat.{ℕ, ◌+◌, ◌-◌, ◌≤◌, ◌<◌}
 use native.Mathlib.Omega.{arith}
-use lib.ListN.{length, get_or, take, length-take}
-use lib.Seq.{get_or-take}
+use lib.ListN.{length, get_or, take}
 use Rattle.model.specs.declared.Group.{Group}
 use Rattle.model.specs.Lists.{total}
 use Rattle.model.specs.Model.{zero_group}
 use Rattle.model.specs.Totalizer.{tree_clause_count}
 use Rattle.model.specs.Cnf.{open_count, at_least, at_most, counted, group_clause_count}
 use Rattle.model.specs.Limits.{limits}
-use Rattle.model.proofs.Lists.{total-append, All, all-place}
+use Rattle.model.proofs.Lists.{total-append}
 use Rattle.encoding_laws.proofs.Fixpoint.{SettledAmong}
 use Rattle.encoding_laws.proofs.Whole.{OpenLimits, limits_of_lem}
 use Rattle.numbering.proofs.Arrays.{next-take}
@@ -44,8 +43,3 @@ count_next t i h =
     ap (total group_clause_count) (next-take t i zero_group h)
     ∙ total-append group_clause_count (take i t) (get_or t i zero_group ∷ [])
     ∙ omega arith
-
-pub settled_at : (t : List Group) (k i : ℕ) → All (SettledAmong limits.entrants) (take k t) → i < k → k ≤ length t
-    → SettledAmong limits.entrants (get_or t i zero_group)
-settled_at t k i s h l =
-    rw (get_or-take k t i zero_group h) at (all-place (SettledAmong limits.entrants) zero_group (take k t) s i (omega (arith, length-take k t)))

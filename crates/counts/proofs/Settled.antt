@@ -7,12 +7,12 @@ use native.Mathlib.Omega.{arith}
 use borrow.Author.Tests.{eq-eqb, ne_eqb}
 use lib.Dec.{T}
 use lib.ListN.{length, get_or, set, take, drop, length-take, take-append-drop}
-use lib.Seq.{get_or-take}
 use Rattle.model.specs.declared.Literal.TheVariants.{Pos}
 use Rattle.model.specs.declared.Group.{Group}
 use Rattle.model.specs.declared.Constraint.{Constraint}
 use Rattle.model.specs.declared.Model.{Model}
-use Rattle.model.specs.Lists.{every, total, between}
+use Rattle.std.specs.List.{list_all}
+use Rattle.model.specs.Lists.{total, between}
 use Rattle.model.specs.Limits.{limits}
 use Rattle.model.specs.Clauses.{by_entrant, member_count, short_clauses, member_clauses, groups_of}
 use Rattle.model.specs.Model.{table_of, constraints_of, code_in_range, constraint_in_range}
@@ -21,7 +21,7 @@ use Rattle.model.specs.Assignment.{variable}
 use Rattle.model.specs.Cnf.{open_count, first_variable, differing, group_clause_count, constraint_clauses, clause_count}
 use Rattle.model.proofs.Refusals.{settled-rest, rest-settled}
 use Rattle.model.proofs.Codes.{member-bound, clause-bound, members-below}
-use Rattle.model.proofs.Lists.{All, all_get_d, all-imp, all-place, total-le, total-append, every-getD}
+use Rattle.model.proofs.Lists.{All, all_get_d, all-imp, all-place, total-le, total-append}
 use Rattle.propagation_laws.proofs.Ranges.{in_range_lem, constraint-code, groups-in, two-groups}
 use Rattle.encoding_laws.proofs.Fixpoint.{SettledAmong, table-settled}
 use Rattle.encoding_laws.proofs.Whole.{open_few}
@@ -53,7 +53,7 @@ module _ (s : ℕ) (c : Constraint) (t : T (constraint_in_range s c)) where
   pub few-clauses : length (member_clauses c.code c.count) ≤ limits.members
   few-clauses = clause-bound c.code c.count code_in
 
-  groups-named : T (every (between 1 s) (take (member_count c.code c.count) c.groups))
+  groups-named : T (list_all (between 1 s) (take (member_count c.code c.count) c.groups))
   unfolding groups_of
   groups-named = groups-in s c t
 
@@ -94,8 +94,8 @@ module _ (s k : ℕ) (c : Constraint) (t : T (constraint_in_range s c)) (e : k �
   pub few-members : k ≤ limits.members
   few-members = let h = member-bound c.code c.count (constraint-code s c t) in omega arith
 
-  pub first-named : T (every (between 1 s) (take k c.groups))
-  first-named = subst (λ (j : ℕ). T (every (between 1 s) (take j c.groups))) (sym e) (groups-named s c t)
+  pub first-named : T (list_all (between 1 s) (take k c.groups))
+  first-named = subst (λ (j : ℕ). T (list_all (between 1 s) (take j c.groups))) (sym e) (groups-named s c t)
 
   pub first-enough : T (by_entrant c.code) → MembersBelow k c.code c.count
   first-enough six = subst (λ (j : ℕ). MembersBelow j c.code c.count) (sym e) (members-enough c six)
@@ -138,11 +138,6 @@ module _ (s n : ℕ) (t : List Group) (cs : List Constraint) (j : ℕ) (d : Cons
       ∙ total-append (λ x. length (constraint_clauses n t 0 x)) (take j cs) (get_or cs j d ∷ [])
       ∙ omega arith
 
-  pub constraint-good-at : (c : ℕ) → T (every (constraint_in_range s) (take c cs)) → j < c → T (constraint_in_range s (get_or cs j d))
-  constraint-good-at c t l =
-      subst (λ (x : Constraint). T (constraint_in_range s x)) (get_or-take c cs j d l)
-      (every-getD (constraint_in_range s) (take c cs) d j t (omega (arith, length-take c cs)))
-
 -- ---- what the entry's parts ask of a settled model
 
 module _ (m : Model) (q : Settled m) where
@@ -163,7 +158,7 @@ module _ (m : Model) (q : Settled m) where
   unfolding table_of
   table-among = table-settled m q
 
-  pub constraints-good : T (every (constraint_in_range m.s) (take m.c m.constraints))
+  pub constraints-good : T (list_all (constraint_in_range m.s) (take m.c m.constraints))
   unfolding constraints_of
   constraints-good = (in_range_lem m q.in_range_lem).constraints
 

@@ -2,7 +2,8 @@
 #![tactic(auto)]
 
 ghost use Rattle.std.specs.Prelude.{◌≡◌, ◌+◌, ◌-◌, ◌*◌, ◌≤◌, T, length, take};
-ghost use Rattle.model.specs.Lists.{every, total};
+ghost use Rattle.std.specs.List.{list_all};
+ghost use Rattle.model.specs.Lists.{total};
 ghost use Rattle.model.specs.Limits.{limits};
 ghost use Rattle.model.specs.Clauses.{member_clauses};
 ghost use Rattle.model.specs.Model.{constraint_in_range};
@@ -48,17 +49,15 @@ fn clauses_by_halves(m: u32) -> Clauses
     }
     let a = m / 2;
     let h = clauses_by_halves(a);
-    let x = h.own;
-    let y = h.more;
-    let mixed = x + y + node_count(a, a + 1);
+    let mixed = h.own + h.more + node_count(a, a + 1);
     if a + a < m {
         return Clauses {
             own: mixed,
-            more: y + y + node_count(a + 1, a + 1),
+            more: h.more + h.more + node_count(a + 1, a + 1),
         };
     }
     Clauses {
-        own: x + x + node_count(a, a),
+        own: h.own + h.own + node_count(a, a),
         more: mixed,
     }
 }
@@ -67,8 +66,7 @@ fn tree_count(m: u32) -> u32
     requires { m ≤ limits.word }
     ensures { result ≡ tree_clause_count m }
 {
-    let h = clauses_by_halves(m);
-    h.own
+    clauses_by_halves(m).own
 }
 
 // How many clauses a group's totalizer has: no more than a block has bytes.
@@ -84,17 +82,14 @@ fn group_count(g: Group) -> u32
 }
 
 // Of the first s groups.
-fn sum_groups(groups: [Group; Model::GROUPS], s: usize) -> u32
+fn sum_groups(groups: &[Group; Model::GROUPS], s: usize) -> u32
     requires s_le_groups { s ≤ limits.groups }
-    requires all { All (SettledAmong limits.entrants) (take s groups) }
-    ensures { (result ≡ total group_clause_count (take s groups)) × (result ≤ s * limits.block) }
+    requires all { All (SettledAmong limits.entrants) (take s groups.now) }
+    ensures { (result ≡ total group_clause_count (take s groups.now)) × (result ≤ s * limits.block) }
 {
     let mut r = 0;
-    let mut i: usize = 0;
-    while i < s {
-        let g = groups[i];
-        r += group_count(g);
-        i += 1;
+    for g in &groups[..s] {
+        r += group_count(*g);
     }
     r
 }
@@ -116,12 +111,9 @@ fn entrant_count(ns: &[u32; Model::MEMBERS], code: u32, count: u32) -> u32
     requires { length (member_clauses code count) ≤ limits.members }
     ensures { (result ≡ entrant_count ns.now code count) × (result ≤ length (member_clauses code count)) }
 {
-    let end = constraint::clause_count(code, count);
     let mut r = 0;
-    let mut j: usize = 0;
-    while j < end {
+    for j in 0..constraint::clause_count(code, count) {
         r += kept_count(ns, code, count, j);
-        j += 1;
     }
     r
 }
@@ -139,86 +131,78 @@ fn entrant_total(ns: &[u32; Model::MEMBERS], k: usize, code: u32, count: u32) ->
 }
 
 // Of a constraint of k members, for n entrants.
-fn constraint_count(ms: [Member; Model::MEMBERS], k: usize, code: u32, count: u32, n: u32) -> u32
+fn constraint_count(ms: &[Member; Model::MEMBERS], k: usize, code: u32, count: u32, n: u32) -> u32
     requires k_le_members { (k ≤ limits.members) × (n ≤ limits.entrants) }
     requires members_below { MembersBelow k code count }
     requires count_len_bound { length (member_clauses code count) ≤ limits.members }
-    ensures { (result ≡ constraint_count (take k ms) code count n) × (result ≤ limits.entrants * limits.members) }
+    ensures { (result ≡ constraint_count (take k ms.now) code count n) × (result ≤ limits.entrants * limits.members) }
 {
     let mut r = 0;
-    let mut e = 0;
-    while e < n {
-        let ns = terms::member_numbers(ms, k, e);
-        r += entrant_total(&ns, k, code, count);
-        e += 1;
+    for e in 0..n {
+        r += entrant_total(&terms::member_numbers(ms, k, e), k, code, count);
     }
     r
 }
 
 // Of a code 7 constraint: none where an entrant differs already, and else the last one too. Their number is the same wherever the X are numbered from.
 fn difference_length(
-    groups: [Group; Model::GROUPS],
+    groups: &[Group; Model::GROUPS],
     s: usize,
-    first: [u32; Model::GROUPS],
-    c: Constraint,
+    first: &[u32; Model::GROUPS],
+    c: &Constraint,
     n: u32,
 ) -> u32
     requires s_le_groups { (s ≤ limits.groups) × (n ≤ limits.entrants) }
-    requires all { All (SettledAmong n) (take s groups) × (first ≡ first_variables (take s groups)) }
-    requires t { T (constraint_in_range s c) × (c.code ≡ 7) }
-    ensures { (result ≡ length (constraint_clauses n (take s groups) 0 c)) × (result ≤ limits.entrants * limits.members + 1) }
+    requires all { All (SettledAmong n) (take s groups.now) × (first.now ≡ first_variables (take s groups.now)) }
+    requires t { T (constraint_in_range s c.now) × (c.now.code ≡ 7) }
+    ensures { (result ≡ length (constraint_clauses n (take s groups.now) 0 c.now)) × (result ≤ limits.entrants * limits.members + 1) }
 {
     if difference::is_apart(groups, s, c) {
         return 0;
     }
-    let ids = c.groups;
     let o = difference::differing(groups, s, c);
-    let ms = terms::difference_members(groups, first, ids, o, 1);
-    constraint_count(ms, 3, c.code, c.count, n) + 1
+    let ms = terms::difference_members(groups, first, &c.groups, o, 1);
+    constraint_count(&ms, 3, c.code, c.count, n) + 1
 }
 
 // Of constraint c among the first s groups.
 fn constraint_length(
-    groups: [Group; Model::GROUPS],
+    groups: &[Group; Model::GROUPS],
     s: usize,
-    first: [u32; Model::GROUPS],
-    c: Constraint,
+    first: &[u32; Model::GROUPS],
+    c: &Constraint,
     n: u32,
 ) -> u32
     requires s_le_groups { (s ≤ limits.groups) × (n ≤ limits.entrants) }
-    requires all { All (SettledAmong n) (take s groups) × (first ≡ first_variables (take s groups)) }
-    requires t { T (constraint_in_range s c) }
-    ensures { (result ≡ length (constraint_clauses n (take s groups) 0 c)) × (result ≤ limits.entrants * limits.members + 1) }
+    requires all { All (SettledAmong n) (take s groups.now) × (first.now ≡ first_variables (take s groups.now)) }
+    requires t { T (constraint_in_range s c.now) }
+    ensures { (result ≡ length (constraint_clauses n (take s groups.now) 0 c.now)) × (result ≤ limits.entrants * limits.members + 1) }
 {
     if c.code == 7 {
         return difference_length(groups, s, first, c, n);
     }
     let k = range::member_count(c.code, c.count);
-    let ids = c.groups;
-    let ms = terms::members(groups, first, ids, k);
-    constraint_count(ms, k, c.code, c.count, n)
+    let ms = terms::members(groups, first, &c.groups, k);
+    constraint_count(&ms, k, c.code, c.count, n)
 }
 
 // Of the first c constraints.
 fn sum_constraints(
-    groups: [Group; Model::GROUPS],
+    groups: &[Group; Model::GROUPS],
     s: usize,
-    first: [u32; Model::GROUPS],
-    constraints: [Constraint; Model::CONSTRAINTS],
+    first: &[u32; Model::GROUPS],
+    constraints: &[Constraint; Model::CONSTRAINTS],
     c: usize,
     n: u32,
 ) -> u32
     requires s_le_groups { (s ≤ limits.groups) × (n ≤ limits.entrants) × (c ≤ limits.constraints) }
-    requires all { All (SettledAmong n) (take s groups) × (first ≡ first_variables (take s groups)) }
-    requires t { T (every (constraint_in_range s) (take c constraints)) }
-    ensures { (result ≡ total (λ x. length (constraint_clauses n (take s groups) 0 x)) (take c constraints)) × (result ≤ c * (limits.entrants * limits.members + 1)) }
+    requires all { All (SettledAmong n) (take s groups.now) × (first.now ≡ first_variables (take s groups.now)) }
+    requires t { T (list_all (constraint_in_range s) (take c constraints.now)) }
+    ensures { (result ≡ total (λ x. length (constraint_clauses n (take s groups.now) 0 x)) (take c constraints.now)) × (result ≤ c * (limits.entrants * limits.members + 1)) }
 {
     let mut r = 0;
-    let mut j: usize = 0;
-    while j < c {
-        let x = constraints[j];
+    for x in &constraints[..c] {
         r += constraint_length(groups, s, first, x, n);
-        j += 1;
     }
     r
 }
@@ -232,11 +216,8 @@ fn settled_count(m: Model) -> u32
 {
     let v = numbering::of_model(m);
     let s = m.s as usize;
-    let groups = m.groups;
-    let constraints = m.constraints;
-    let first = v.first;
-    let a = sum_groups(groups, s);
-    let b = sum_constraints(groups, s, first, constraints, m.c as usize, m.n);
+    let a = sum_groups(&m.groups, s);
+    let b = sum_constraints(&m.groups, s, &v.first, &m.constraints, m.c as usize, m.n);
     a + b
 }
 

@@ -15,7 +15,8 @@ use Rattle.model.specs.declared.Literal.{Literal}
 use Rattle.model.specs.declared.Node.{Node}
 use Rattle.model.specs.declared.Group.{Group}
 use Rattle.model.specs.declared.Model.{Model}
-use Rattle.model.specs.Lists.{each, total, range}
+use Rattle.std.specs.List.{flat_map}
+use Rattle.model.specs.Lists.{total, range}
 use Rattle.model.specs.Words.{size}
 use Rattle.model.specs.Model.{zero_group, group_at, table_of, constraints_of, Sized}
 use Rattle.model.specs.Propagate.{Settled}
@@ -105,7 +106,7 @@ module _ (m v o : ℕ) (two : 2 ≤ m) where
 
 -- blocks put together
 abbrev pub joined : List (List (List Literal)) → List (List Literal)
-joined bs = each (λ b. b) bs
+joined bs = flat_map (λ b. b) bs
 
 -- of at least two leaves: of one the units would stand in no block
 pub totalizer_joined : (m v o L U : ℕ) → 2 ≤ m → joined (totalizer_blocks m v o L U) ≡ totalizer_clauses m v o L U
@@ -113,16 +114,16 @@ unfolding totalizer_blocks totalizer_clauses tree_clauses tree_blocks nodes
 totalizer_joined m v o L U h = rw (shape-step m h) (go (shape (m / 2)) (shape (m - m / 2)))
   where
     go : (l r : Shape) → joined (tree_blocks (node l r) v o (unit_clauses (root_output (node l r) v o) m L U))
-        ≡ each node_clauses (nodes (node l r) v o) ++ unit_clauses (root_output (node l r) v o) m L U
+        ≡ flat_map node_clauses (nodes (node l r) v o) ++ unit_clauses (root_output (node l r) v o) m L U
     go l r =
         let us = unit_clauses (root_output (node l r) v o) m L U in
         let ns = nodes l v o ++ nodes r (v + leaves l) (o + outputs l) in
         let own = node_clauses (node_over l r v o) in
         each_append (λ b. b) (map node_clauses ns) ((own ++ us) ∷ [])
         ∙ ap₂ (λ (x y : List (List Literal)). x ++ y) (each_map (λ b. b) node_clauses ns) (append-nil (own ++ us))
-        ∙ sym (append_assoc (each node_clauses ns) own us)
+        ∙ sym (append_assoc (flat_map node_clauses ns) own us)
         ∙ ap (λ (x : List (List Literal)). x ++ us)
-        (sym (each_append node_clauses ns (node_over l r v o ∷ []) ∙ ap (λ (x : List (List Literal)). each node_clauses ns ++ x) (append-nil own)))
+        (sym (each_append node_clauses ns (node_over l r v o ∷ []) ∙ ap (λ (x : List (List Literal)). flat_map node_clauses ns ++ x) (append-nil own)))
 
 -- block k: node k's clauses, and the units in the root's
 unfoldable pub units_at : ℕ → ℕ → List (List Literal) → List (List Literal)
@@ -269,12 +270,12 @@ module _ (m : Model) (z : Sized m) where
 
 -- element k of what f makes of element i
 each_at : {A B : Type 0} (f : A → List B) (xs : List A) (i k : ℕ) (x : A) (d : B) → i < length xs → k < length (f (get_or xs i x))
-    → get_or (each f xs) (total (λ y. length (f y)) (take i xs) + k) d ≡ get_or (f (get_or xs i x)) k d
+    → get_or (flat_map f xs) (total (λ y. length (f y)) (take i xs) + k) d ≡ get_or (f (get_or xs i x)) k d
 each_at f [] i k x d h l = absurd (omega arith)
-each_at f (y ∷ ys) zero k x d h l = ap (λ (j : ℕ). get_or (f y ++ each f ys) j d) (zero-add k) ∙ get_or-append (f y) (each f ys) d k l
+each_at f (y ∷ ys) zero k x d h l = ap (λ (j : ℕ). get_or (f y ++ flat_map f ys) j d) (zero-add k) ∙ get_or-append (f y) (flat_map f ys) d k l
 each_at f (y ∷ ys) (suc i) k x d h l =
-    ap (λ (j : ℕ). get_or (f y ++ each f ys) j d) (add_assoc (length (f y)) (total (λ z. length (f z)) (take i ys)) k)
-    ∙ get_or-append-add (f y) (each f ys) (total (λ z. length (f z)) (take i ys) + k) d
+    ap (λ (j : ℕ). get_or (f y ++ flat_map f ys) j d) (add_assoc (length (f y)) (total (λ z. length (f z)) (take i ys)) k)
+    ∙ get_or-append-add (f y) (flat_map f ys) (total (λ z. length (f z)) (take i ys) + k) d
     ∙ each_at f ys i k x d (omega arith) l
 
 take-map : {A B : Type 0} (f : A → B) (i : ℕ) (xs : List A) → map f (take i xs) ≡ take i (map f xs)
@@ -302,7 +303,7 @@ module _ (m : Model) (z : Sized m) where
       let before : ℕ = total nodes_of (take i t) in
       let at : 1 + before + k - 1 ≡ total (λ j. length (group_blocks t j)) (take i (range 1 m.s)) + k = omega (arith, blocks-before i) in
       node_block m (1 + before + k) (omega (arith, last_block m z g one top, l))
-      ∙ ap (λ (j : ℕ). get_or (each (group_blocks t) (range 1 m.s)) j []) at
+      ∙ ap (λ (j : ℕ). get_or (flat_map (group_blocks t) (range 1 m.s)) j []) at
       ∙ each_at (group_blocks t) (range 1 m.s) i k 0 [] (omega (arith, range_length 1 m.s)) (omega (arith, count))
       ∙ ap (λ (j : ℕ). get_or (group_blocks t j) k []) here
 
@@ -315,10 +316,10 @@ module _ (m : Model) (q : Settled m) where
       group-joined (table_of m) g
       (all-place (SettledAmong m.n) zero_group (table_of m) (table-settled m q) (g - 1) (omega (arith, table-length m q.sized))).group
 
-  groups-whole : each (λ g. joined (group_blocks (table_of m) g)) (range 1 m.s) ≡ each (group_clauses (table_of m)) (range 1 m.s)
+  groups-whole : flat_map (λ g. joined (group_blocks (table_of m) g)) (range 1 m.s) ≡ flat_map (group_clauses (table_of m)) (range 1 m.s)
   groups-whole = each-range_ext (λ g. joined (group_blocks (table_of m) g)) (group_clauses (table_of m)) 1 m.s (λ g l h. group-whole g l (omega arith))
 
-  nodes-whole : each (block_clauses m) (range 1 (length (node_blocks m))) ≡ each (group_clauses (table_of m)) (range 1 m.s)
+  nodes-whole : flat_map (block_clauses m) (range 1 (length (node_blocks m))) ≡ flat_map (group_clauses (table_of m)) (range 1 m.s)
   unfolding node_blocks
   nodes-whole =
       each-range_ext (block_clauses m) (λ b. get_or (node_blocks m) (b - 1) []) 1 (length (node_blocks m)) (λ b l h. node_block m b (omega arith))
@@ -329,11 +330,11 @@ module _ (m : Model) (q : Settled m) where
 
   -- the groups' clauses, then the constraints'
   pub clauses-parts : clauses m
-      ≡ each (group_clauses (table_of m)) (range 1 m.s) ++ over_constraints (table_of m) (constraint_clauses m.n (table_of m)) (constraints_of m) (1 + table_variables (table_of m))
+      ≡ flat_map (group_clauses (table_of m)) (range 1 m.s) ++ over_constraints (table_of m) (constraint_clauses m.n (table_of m)) (constraints_of m) (1 + table_variables (table_of m))
   unfolding clauses block_count
   clauses-parts =
       let k = length (node_blocks m) in
-      ap (each (block_clauses m)) (range-append 1 k m.c)
+      ap (flat_map (block_clauses m)) (range-append 1 k m.c)
       ∙ each_append (block_clauses m) (range 1 k) (range (1 + k) m.c)
       ∙ ap₂ (λ (x y : List (List Literal)). x ++ y) nodes-whole
       (each-range_ext (block_clauses m) (λ b. line_clauses m (b - k)) (1 + k) m.c (λ b l h. line-block m b (omega arith))
@@ -345,7 +346,7 @@ module _ (m : Model) (q : Settled m) where
   clauses-length =
       let t = table_of m in
       ap length clauses-parts
-      ∙ length-append (each (group_clauses t) (range 1 m.s)) (over_constraints t (constraint_clauses m.n t) (constraints_of m) (1 + table_variables t))
+      ∙ length-append (flat_map (group_clauses t) (range 1 m.s)) (over_constraints t (constraint_clauses m.n t) (constraints_of m) (1 + table_variables t))
       ∙ ap₂ (λ (x y : ℕ). x + y)
       (length-each (group_clauses t) (range 1 m.s)
       ∙ total_ext (λ g. length (group_clauses t g)) (λ g. group_clause_count (group_at t g)) (group-length t) (range 1 m.s)
@@ -355,10 +356,10 @@ module _ (m : Model) (q : Settled m) where
 
   -- ---- document 01's division has the same clauses
 
-  pub by-group-parts : each (clauses_by_group m) (range 1 (m.s + m.c)) ≡ clauses m
+  pub by-group-parts : flat_map (clauses_by_group m) (range 1 (m.s + m.c)) ≡ clauses m
   unfolding clauses_by_group
   by-group-parts =
-      ap (each (clauses_by_group m)) (range-append 1 m.s m.c)
+      ap (flat_map (clauses_by_group m)) (range-append 1 m.s m.c)
       ∙ each_append (clauses_by_group m) (range 1 m.s) (range (1 + m.s) m.c)
       ∙ ap₂ (λ (x y : List (List Literal)). x ++ y)
       (each-range_ext (clauses_by_group m) (group_clauses (table_of m)) 1 m.s (λ g l h. rw (le-leb g m.s (omega arith))))

@@ -17,7 +17,8 @@ use Rattle.model.specs.declared.Node.{Node}
 use Rattle.model.specs.declared.Group.{Group}
 use Rattle.model.specs.declared.Constraint.{Constraint}
 use Rattle.model.specs.declared.Model.{Model}
-use Rattle.model.specs.Lists.{any, each, total, range}
+use Rattle.std.specs.List.{list_any, flat_map}
+use Rattle.model.specs.Lists.{total, range}
 use Rattle.model.specs.Limits.{limits, groups_for}
 use Rattle.model.specs.Clauses.{short_clauses, union_clauses, member_clauses}
 use Rattle.model.specs.Model.{zero_group, zero_constraint, group_at, table_of, constraints_of, constraint_in_range}
@@ -285,11 +286,11 @@ unfolding clause_text
 clause-bytes c h =
     let e = length-each literal_text c in
     let x = total-le (λ l. length (literal_text l)) literal_bytes c (all-imp Short (λ l. length (literal_text l) ≤ literal_bytes) literal-bytes c h) in
-    omega (arith, length-append (each literal_text c) (48 ∷ 10 ∷ []), e, x)
+    omega (arith, length-append (flat_map literal_text c) (48 ∷ 10 ∷ []), e, x)
 
 -- a block within its bytes
 abbrev Fits : List (List Literal) → Type 0
-Fits b = length (each clause_text b) ≤ limits.block
+Fits b = length (flat_map clause_text b) ≤ limits.block
 
 -- ---- a group's blocks: clauses of at most three literals
 
@@ -304,7 +305,7 @@ literals-length (Open l ∷ ts) = omega (arith, literals-length ts)
 
 keep-three : (ts : List Term) → length ts ≤ 3 → All Three (keep ts)
 unfolding keep
-keep-three ts h = go (any holds ts)
+keep-three ts h = go (list_any holds ts)
   where
     go : (b : Bool) → All Three (cond b [] (literals ts ∷ []))
     go true = tt
@@ -358,7 +359,7 @@ group-three t g = go (counted r)
         )
     go false = tt
 
-clauses-bytes : (cs : List (List Literal)) → All (All Short) cs → All Three cs → length (each clause_text cs) ≤ length cs * clause_bytes 3
+clauses-bytes : (cs : List (List Literal)) → All (All Short) cs → All Three cs → length (flat_map clause_text cs) ≤ length cs * clause_bytes 3
 clauses-bytes cs h k =
     let e = length-each clause_text cs in
     let x =
@@ -394,16 +395,16 @@ modest s c t =
     (λ h. omega arith)
     c.code (is_code c.code c.count (constraint-code s c t)) (count-in c.code c.count (constraint-code s c t))
 
-kept-bytes : (ts : List Term) → All (All Short) (keep ts) → length (each clause_text (keep ts)) ≤ clause_bytes (length ts)
+kept-bytes : (ts : List Term) → All (All Short) (keep ts) → length (flat_map clause_text (keep ts)) ≤ clause_bytes (length ts)
 unfolding keep
-kept-bytes ts h = go (any holds ts) h
+kept-bytes ts h = go (list_any holds ts) h
   where
-    go : (b : Bool) → All (All Short) (cond b [] (literals ts ∷ [])) → length (each clause_text (cond b [] (literals ts ∷ []))) ≤ clause_bytes (length ts)
+    go : (b : Bool) → All (All Short) (cond b [] (literals ts ∷ [])) → length (flat_map clause_text (cond b [] (literals ts ∷ []))) ≤ clause_bytes (length ts)
     go true h = omega arith
     go false h = omega (arith, clause-bytes (literals ts) h.0, length-append (clause_text (literals ts)) [], literals-length ts)
 
 module _ (t : List Group) (x : ℕ) (c : Constraint) where
-  entrant-bytes : (e : ℕ) → Modest c → All (All Short) (clauses_at x t c e) → length (each clause_text (clauses_at x t c e)) ≤ entrant_bytes
+  entrant-bytes : (e : ℕ) → Modest c → All (All Short) (clauses_at x t c e) → length (flat_map clause_text (clauses_at x t c e)) ≤ entrant_bytes
   unfolding clauses_at Modest
   entrant-bytes e k h = go (is_apart t c) h
     where
@@ -413,37 +414,37 @@ module _ (t : List Group) (x : ℕ) (c : Constraint) where
       f : List Literal → List (List Literal)
       f ls = keep (map (term_of (constraint_term x t c e)) ls)
 
-      go : (b : Bool) → All (All Short) (cond b [] (each f cs)) → length (each clause_text (cond b [] (each f cs))) ≤ entrant_bytes
+      go : (b : Bool) → All (All Short) (cond b [] (flat_map f cs)) → length (flat_map clause_text (cond b [] (flat_map f cs))) ≤ entrant_bytes
       go true h = omega arith
       go false h =
-          let p = ap length (each-each clause_text f cs) ∙ length-each (λ ls. each clause_text (f ls)) cs in
+          let p = ap length (each-each clause_text f cs) ∙ length-each (λ ls. flat_map clause_text (f ls)) cs in
           let q =
-          total_mono (λ ls. length (each clause_text (f ls))) bytes_of cs
-          (all-imp (λ ls. All (All Short) (f ls)) (λ ls. length (each clause_text (f ls)) ≤ bytes_of ls)
+          total_mono (λ ls. length (flat_map clause_text (f ls))) bytes_of cs
+          (all-imp (λ ls. All (All Short) (f ls)) (λ ls. length (flat_map clause_text (f ls)) ≤ bytes_of ls)
           (λ ls q. let w = kept-bytes (map (term_of (constraint_term x t c e)) ls) q in omega (arith, length-map ls (term_of (constraint_term x t c e)))) cs
           (each_all (All Short) f cs h)) in
           omega (arith, p, q)
 
   -- the last clause has a literal for each entrant at most
-  last-bytes : (n : ℕ) → All (All Short) (last_clause n x t c) → length (each clause_text (last_clause n x t c)) ≤ clause_bytes n
+  last-bytes : (n : ℕ) → All (All Short) (last_clause n x t c) → length (flat_map clause_text (last_clause n x t c)) ≤ clause_bytes n
   unfolding last_clause
   last-bytes n h = go (is_open_difference t c) h
     where
       go : (b : Bool) → All (All Short) (cond b (keep (map (difference x t c) (range 0 n))) [])
-          → length (each clause_text (cond b (keep (map (difference x t c) (range 0 n))) [])) ≤ clause_bytes n
+          → length (flat_map clause_text (cond b (keep (map (difference x t c) (range 0 n))) [])) ≤ clause_bytes n
       go true h = omega (arith, kept-bytes (map (difference x t c) (range 0 n)) h, length-map (range 0 n) (difference x t c), range_length 0 n)
       go false h = omega arith
 
   constraint-bytes : (n : ℕ) → Modest c → All (All Short) (constraint_clauses n t x c)
-      → length (each clause_text (constraint_clauses n t x c)) ≤ n * entrant_bytes + clause_bytes n
+      → length (flat_map clause_text (constraint_clauses n t x c)) ≤ n * entrant_bytes + clause_bytes n
   unfolding constraint_clauses
   constraint-bytes n k h =
-      let es = each (clauses_at x t c) (range 0 n) in
+      let es = flat_map (clauses_at x t c) (range 0 n) in
       let parts = (all_both (All Short) es (last_clause n x t c)).0 h in
-      let p = ap length (each-each clause_text (clauses_at x t c) (range 0 n)) ∙ length-each (λ e. each clause_text (clauses_at x t c e)) (range 0 n) in
+      let p = ap length (each-each clause_text (clauses_at x t c) (range 0 n)) ∙ length-each (λ e. flat_map clause_text (clauses_at x t c e)) (range 0 n) in
       let q =
-      total-le (λ e. length (each clause_text (clauses_at x t c e))) entrant_bytes (range 0 n)
-      (all-imp (λ e. All (All Short) (clauses_at x t c e)) (λ e. length (each clause_text (clauses_at x t c e)) ≤ entrant_bytes) (λ e q. entrant-bytes e k q) (range 0 n)
+      total-le (λ e. length (flat_map clause_text (clauses_at x t c e))) entrant_bytes (range 0 n)
+      (all-imp (λ e. All (All Short) (clauses_at x t c e)) (λ e. length (flat_map clause_text (clauses_at x t c e)) ≤ entrant_bytes) (λ e q. entrant-bytes e k q) (range 0 n)
       (each_all (All Short) (clauses_at x t c) (range 0 n) parts.0)) in
       let w = last-bytes n parts.1 in
       omega (
@@ -452,15 +453,15 @@ module _ (t : List Group) (x : ℕ) (c : Constraint) where
         q,
         range_length 0 n,
         ap length (each_append clause_text es (last_clause n x t c)),
-        length-append (each clause_text es) (each clause_text (last_clause n x t c)),
+        length-append (flat_map clause_text es) (flat_map clause_text (last_clause n x t c)),
       )
 
 -- every clause has bytes
-clauses-few : (cs : List (List Literal)) → length cs ≤ length (each clause_text cs)
+clauses-few : (cs : List (List Literal)) → length cs ≤ length (flat_map clause_text cs)
 unfolding clause_text
 clauses-few [] = omega arith
 clauses-few (c ∷ cs) =
-    omega (arith, length-append (clause_text c) (each clause_text cs), length-append (each literal_text c) (48 ∷ 10 ∷ []), clauses-few cs)
+    omega (arith, length-append (clause_text c) (flat_map clause_text cs), length-append (flat_map literal_text c) (48 ∷ 10 ∷ []), clauses-few cs)
 
 -- ---- every block
 
@@ -484,7 +485,7 @@ module _ (m : Model) (q : Settled m) where
         let few : open_count (group_at (table_of m) g) ≤ limits.entrants = le_trans (open_few m.n (group_at (table_of m) g) among) few in
         most-bytes-fit (open_count (group_at (table_of m) g)) few
 
-    pub group-bytes : All (λ b. length (each clause_text b) ≤ most_bytes (open_count (group_at (table_of m) g))) (group_blocks (table_of m) g)
+    pub group-bytes : All (λ b. length (flat_map clause_text b) ≤ most_bytes (open_count (group_at (table_of m) g))) (group_blocks (table_of m) g)
     unfolding most_bytes
     group-bytes =
         let t = table_of m in
@@ -493,7 +494,7 @@ module _ (m : Model) (q : Settled m) where
         let e = sym (group-joined t g among.group) in
         let short = each_all (All Short) (λ b. b) bs (subst (All (All Short)) e (shorts (group_clauses t g) (group-variables m q g h k))) in
         let three = each_all Three (λ b. b) bs (subst (All Three) e (group-three t g)) in
-        all-imp (λ b. All (All Short) b × (All Three b × Sizes c c b)) (λ b. length (each clause_text b) ≤ clause_bytes 3 * ((c + 2) * (c + 2) / 2 + c))
+        all-imp (λ b. All (All Short) b × (All Three b × Sizes c c b)) (λ b. length (flat_map clause_text b) ≤ clause_bytes 3 * ((c + 2) * (c + 2) / 2 + c))
         (λ b p. let w = p.1.1 in omega (arith, clauses-bytes b p.0 p.1.0, w)) bs
         (all-zip (All (All Short)) (λ b. All Three b × Sizes c c b) bs short (all-zip (All Three) (Sizes c c) bs three (group-sizes m.n t g among)))
 
@@ -503,7 +504,7 @@ module _ (m : Model) (q : Settled m) where
       all-each Fits (group_blocks (table_of m)) (range 1 m.s)
       (range_all (λ g. All Fits (group_blocks (table_of m) g)) 1 m.s
       (λ g l h. let k : g ≤ m.s = omega arith in
-      all-imp (λ b. length (each clause_text b) ≤ most_bytes (open_count (group_at (table_of m) g))) Fits (λ b w. le_trans w (open-most g l k))
+      all-imp (λ b. length (flat_map clause_text b) ≤ most_bytes (open_count (group_at (table_of m) g))) Fits (λ b w. le_trans w (open-most g l k))
       (group_blocks (table_of m) g) (group-bytes g l k)))
 
   all-modest : All Modest (constraints_of m)

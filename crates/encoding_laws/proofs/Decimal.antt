@@ -2,7 +2,7 @@
 use mathlib.Core.Path.{◌≡◌, refl, sym, ap, ◌∙◌, subst}
 use mathlib.Core.Bool.{Bool, true, false, ◌&&◌, cond}
 use mathlib.Core.List.{List, [], ◌∷◌, ◌++◌}
-use mathlib.Core.Option.{none, some}
+use Rattle.std.specs.Prelude.{None, Some}
 use Prim.Native.Nat.{ℕ, zero, suc, ◌+◌, ◌-◌, ◌*◌, ◌/◌, ◌%◌, ◌^◌, ◌≤◌, ◌<◌}
 use native.Mathlib.Nat.{le_of_eq, pow-suc}
 use native.Mathlib.Omega.{arith}
@@ -57,29 +57,29 @@ by_digits P one more v = go (suc v) v (omega arith)
 
 -- ---- reading
 
-digit-read : (u d : ℕ) → d < 10 → digits_after u ((48 + d) ∷ []) ≡ some (u * 10 + d)
+digit-read : (u d : ℕ) → d < 10 → digits_after u ((48 + d) ∷ []) ≡ Some (u * 10 + d)
 digit-read u d h =
     let a : leb 48 (48 + d) ≡ true = le-leb 48 (48 + d) (omega arith) in
     let b : leb (48 + d) 57 ≡ true = le-leb (48 + d) 57 (omega arith) in
     let c : 48 + d - 48 ≡ d = omega arith in
     rw (a, b, c)
 
-read-append : (xs ys : List ℕ) (u w : ℕ) → digits_after u xs ≡ some w → digits_after u (xs ++ ys) ≡ digits_after w ys
+read-append : (xs ys : List ℕ) (u w : ℕ) → digits_after u xs ≡ Some w → digits_after u (xs ++ ys) ≡ digits_after w ys
 read-append [] ys u w h = ap (λ (x : ℕ). digits_after x ys) (some-eq h)
   where
-    some-eq : some u ≡ some w → u ≡ w
+    some-eq : Some u ≡ Some w → u ≡ w
     some-eq e = cc
 read-append (x ∷ xs) ys u w h = go (between 48 57 x) (read-append xs ys (u * 10 + (x - 48)) w) h
   where
-    go : (b : Bool) → (digits_after (u * 10 + (x - 48)) xs ≡ some w → digits_after (u * 10 + (x - 48)) (xs ++ ys) ≡ digits_after w ys)
-        → cond b (digits_after (u * 10 + (x - 48)) xs) none ≡ some w → cond b (digits_after (u * 10 + (x - 48)) (xs ++ ys)) none ≡ digits_after w ys
+    go : (b : Bool) → (digits_after (u * 10 + (x - 48)) xs ≡ Some w → digits_after (u * 10 + (x - 48)) (xs ++ ys) ≡ digits_after w ys)
+        → cond b (digits_after (u * 10 + (x - 48)) xs) None ≡ Some w → cond b (digits_after (u * 10 + (x - 48)) (xs ++ ys)) None ≡ digits_after w ys
     go true ih e = ih e
     go false ih e = absurd (let z : ◌≡◌ {A = ℕ} 0 1 = cc in omega arith)
 
-pub decimal-reads : (v : ℕ) → digits_after 0 (decimal v) ≡ some v
+pub decimal-reads : (v : ℕ) → digits_after 0 (decimal v) ≡ Some v
 decimal-reads =
-    by_digits (λ v ds. digits_after 0 ds ≡ some v) (λ v h. digit-read 0 v h ∙ ap some (omega arith))
-    (λ v ds h e. read-append ds ((48 + v % 10) ∷ []) 0 (v / 10) e ∙ digit-read (v / 10) (v % 10) (omega arith) ∙ ap some (omega arith))
+    by_digits (λ v ds. digits_after 0 ds ≡ Some v) (λ v h. digit-read 0 v h ∙ ap Some (omega arith))
+    (λ v ds h e. read-append ds ((48 + v % 10) ∷ []) 0 (v / 10) e ∙ digit-read (v / 10) (v % 10) (omega arith) ∙ ap Some (omega arith))
 
 -- ---- the digits themselves
 
@@ -95,15 +95,15 @@ decimal-some = by_digits (λ v ds. 0 < length ds) (λ v h. omega arith) (λ v ds
 pub decimal-first : (v : ℕ) → 1 ≤ v → 49 ≤ get_or (decimal v) 0 0
 decimal-first =
     λ v h. (by_digits (λ v ds. (0 < length ds) × (1 ≤ v → 49 ≤ get_or ds 0 0)) (λ v l. (omega arith, λ k. omega arith))
-    (λ v ds l e. let some = e.0 in (
+    (λ v ds l e. let Some = e.0 in (
       omega (arith, length-append ds ((48 + v % 10) ∷ [])),
-      λ k. rw (get_or-append ds ((48 + v % 10) ∷ []) 0 0 some) (e.1 (omega arith)),
+      λ k. rw (get_or-append ds ((48 + v % 10) ∷ []) 0 0 Some) (e.1 (omega arith)),
     )) v).1 h
 
 pub decimal-one : (v : ℕ) → v < 10 → length (decimal v) ≡ 1
 decimal-one v h = ap length (decimal-small v h)
 
-pub decimal-number : (v : ℕ) → number_of (decimal v) ≡ some v
+pub decimal-number : (v : ℕ) → number_of (decimal v) ≡ Some v
 unfolding number_of
 decimal-number v =
     let e : eqb (length (decimal v)) 0 ≡ false = ne_eqb (length (decimal v)) 0 (λ z. let h = decimal-some v in omega arith) in
@@ -119,11 +119,11 @@ decimal-number v =
         go true = refl
         go false = refl
 
-pub decimal-natural : (v : ℕ) → natural (decimal v) ≡ some v
+pub decimal-natural : (v : ℕ) → natural (decimal v) ≡ Some v
 unfolding natural
 decimal-natural v = go (decimal v) (decimal-some v) (decimal-reads v)
   where
-    go : (ds : List ℕ) → 0 < length ds → digits_after 0 ds ≡ some v → cond (is_empty ds) none (digits_after 0 ds) ≡ some v
+    go : (ds : List ℕ) → 0 < length ds → digits_after 0 ds ≡ Some v → cond (is_empty ds) None (digits_after 0 ds) ≡ Some v
     go [] h e = absurd (omega arith)
     go (d ∷ ds) h e = e
 

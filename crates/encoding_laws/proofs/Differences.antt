@@ -17,7 +17,8 @@ use Rattle.model.specs.declared.Term.{Term}
 use Rattle.model.specs.declared.Term.TheVariants.{Holds, Fails, Open}
 use Rattle.model.specs.declared.Group.{Group}
 use Rattle.model.specs.declared.Constraint.{Constraint}
-use Rattle.model.specs.Lists.{every, any, each, range}
+use Rattle.std.specs.List.{list_all, list_any, flat_map}
+use Rattle.model.specs.Lists.{range}
 use Rattle.model.specs.Words.{full, less, size, inside, bit, has}
 use Rattle.model.specs.Clauses.{by_entrant, short_clauses, member_clauses, is_difference, rule_clauses, of_group, clauses_of}
 use Rattle.model.specs.Model.{zero_group, group_at, member_at}
@@ -34,7 +35,7 @@ use Rattle.encoding_laws.proofs.Truth.{all_true, opposite-true, keep-true}
 use Rattle.encoding_laws.proofs.Row.{in_row, row_word}
 use Rattle.encoding_laws.proofs.Fixpoint.{SettledAmong}
 
-each_ext : {A B : Type 0} (f g : A → List B) → ((x : A) → f x ≡ g x) → (xs : List A) → each f xs ≡ each g xs
+each_ext : {A B : Type 0} (f g : A → List B) → ((x : A) → f x ≡ g x) → (xs : List A) → flat_map f xs ≡ flat_map g xs
 each_ext f g h [] = refl
 each_ext f g h (x ∷ xs) = ap₂ (λ p q. p ++ q) (h x) (each_ext f g h xs)
 
@@ -70,7 +71,7 @@ module _ (t : List Group) (c : Constraint) (six : T (by_entrant c.code)) where
   six-scope n = rw six-difference
 
   -- their clauses are those that the line rule goes through
-  pub six-at : (x e : ℕ) → clauses_at x t c e ≡ each (λ ls. keep (map (term_of (membership t e)) ls)) (clauses_of c)
+  pub six-at : (x e : ℕ) → clauses_at x t c e ≡ flat_map (λ ls. keep (map (term_of (membership t e)) ls)) (clauses_of c)
   unfolding clauses_at clauses_of rule_clauses
   six-at x e =
       rw (six-apart, not_seven c.code six)
@@ -150,12 +151,12 @@ module _ (t : List Group) (c : Constraint) (seven : c.code ≡ 7) where
 
   pub apart-clauses : is_apart t c ≡ true → (n x : ℕ) → constraint_clauses n t x c ≡ []
   unfolding constraint_clauses
-  apart-clauses e n x = rw (apart-last e n x) (append-nil (each (clauses_at x t c) (range 0 n)) ∙ each_ext (clauses_at x t c) nothing (apart-at e x) (range 0 n) ∙ empty (range 0 n))
+  apart-clauses e n x = rw (apart-last e n x) (append-nil (flat_map (clauses_at x t c) (range 0 n)) ∙ each_ext (clauses_at x t c) nothing (apart-at e x) (range 0 n) ∙ empty (range 0 n))
     where
       nothing : ℕ → List (List Literal)
       nothing i = []
 
-      empty : (l : List ℕ) → each nothing l ≡ []
+      empty : (l : List ℕ) → flat_map nothing l ≡ []
       empty [] = refl
       empty (i ∷ l) = empty l
 
@@ -250,9 +251,9 @@ four x t c seven clear e =
     let p : mt 0 ≡ membership t e (get_or c.groups 0 0) = unfold constraint_term in rw (is-difference t c seven) in
     let q : mt 1 ≡ membership t e (get_or c.groups 1 0) = unfold constraint_term in rw (is-difference t c seven) in
     let r : mt 2 ≡ difference x t c e = unfold constraint_term in rw (is-difference t c seven) in
-    let s : each kept (member_clauses 7 c.count) ≡ four_of (membership t e (get_or c.groups 0 0)) (membership t e (get_or c.groups 1 0)) (difference x t c e) =
+    let s : flat_map kept (member_clauses 7 c.count) ≡ four_of (membership t e (get_or c.groups 0 0)) (membership t e (get_or c.groups 1 0)) (difference x t c e) =
     ap₂ (λ (F G : Term). four_of F G (mt 2)) p q ∙ ap (four_of (membership t e (get_or c.groups 0 0)) (membership t e (get_or c.groups 1 0))) r in
-    rw clear (ap (λ (code : ℕ). each kept (member_clauses code c.count)) seven ∙ s)
+    rw clear (ap (λ (code : ℕ). flat_map kept (member_clauses code c.count)) seven ∙ s)
 
 -- ---- the sets of a solution
 
@@ -278,9 +279,9 @@ one_none f g =
     rw (bit_ext (one_of f g) 0 (λ e. omega (arith, one-bits e f g, ap (bit e) z, bit-zero e))) tt)
 
 -- words below 2 ^ n are equal where each entrant below n is in both or in neither
-pub equal_words : (n x y : ℕ) → x < 2 ^ n → y < 2 ^ n → eqb x y ≡ every (λ e. beq (has x e) (has y e)) (range 0 n)
+pub equal_words : (n x y : ℕ) → x < 2 ^ n → y < 2 ^ n → eqb x y ≡ list_all (λ e. beq (has x e) (has y e)) (range 0 n)
 equal_words n x y hx hy =
-    T-ext (eqb x y) (every same (range 0 n)) (λ t. range-every same 0 n (λ e _ _. rw (eqb→eq x y t) (alike (has y e))))
+    T-ext (eqb x y) (list_all same (range 0 n)) (λ t. range-every same 0 n (λ e _ _. rw (eqb→eq x y t) (alike (has y e))))
     (λ t. rw (has_ext x y (λ e. at e (every-range same 0 n t e) (dec_lt e n))) (eqb_refl y))
   where
     same : ℕ → Bool
@@ -360,16 +361,16 @@ difference-has a n x t c e h =
     go false = refl
 
 -- some X is true
-pub some-true : (n w : ℕ) → w < 2 ^ n → any (has w) (range 0 n) ≡ not (eqb w 0)
+pub some-true : (n w : ℕ) → w < 2 ^ n → list_any (has w) (range 0 n) ≡ not (eqb w 0)
 some-true n w h =
     turn (range 0 n) ∙ ap not (sym (inside-words n w 0 h) ∙ T-ext (inside w 0) (eqb w 0) (λ t. rw (nobody t) tt) (λ t. rw (eqb→eq w 0 t) (sub-inside 0 0 (sub_refl 0))))
   where
     nobody : T (inside w 0) → w ≡ 0
     nobody t = sub_antisym (inside-sub w 0 t) (record { at = λ e. omega (arith, bit-zero e) })
 
-    turn : (l : List ℕ) → any (has w) l ≡ not (every (λ e. not (has w e) || has 0 e) l)
+    turn : (l : List ℕ) → list_any (has w) l ≡ not (list_all (λ e. not (has w e) || has 0 e) l)
     turn [] = refl
-    turn (e ∷ l) = rw (has-zero e, turn l) (table (has w e) (every (λ e. not (has w e) || has 0 e) l))
+    turn (e ∷ l) = rw (has-zero e, turn l) (table (has w e) (list_all (λ e. not (has w e) || has 0 e) l))
       where
         table : (x y : Bool) → (x || not y) ≡ not ((not x || false) && y)
         table true y = refl
@@ -419,11 +420,11 @@ open_literals (suc n) x o h =
         rw (f, z, size-zero, add-zero x, k) (ap (λ (l : List Literal). Pos x ∷ l) (ih ∙ ap (λ (v : ℕ). map Pos (range v (size (o / 2)))) s))
     first (suc (suc b)) p ih = absurd (omega arith)
 
-none-holds : (x o : ℕ) (l : List ℕ) → any holds (map (open_term x o) l) ≡ false
+none-holds : (x o : ℕ) (l : List ℕ) → list_any holds (map (open_term x o) l) ≡ false
 none-holds x o [] = refl
 none-holds x o (e ∷ l) = go (has o e) (none-holds x o l)
   where
-    go : (b : Bool) → any holds (map (open_term x o) l) ≡ false → (holds (cond b (Open (Pos (x + size (o % 2 ^ e)))) Fails) || any holds (map (open_term x o) l)) ≡ false
+    go : (b : Bool) → list_any holds (map (open_term x o) l) ≡ false → (holds (cond b (Open (Pos (x + size (o % 2 ^ e)))) Fails) || list_any holds (map (open_term x o) l)) ≡ false
     go true h = h
     go false h = h
 

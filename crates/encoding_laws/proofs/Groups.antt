@@ -14,7 +14,8 @@ use Rattle.model.specs.declared.Term.TheVariants.{Open, Fails}
 use Rattle.model.specs.declared.Group.{Group}
 use Rattle.model.specs.declared.Constraint.{Constraint}
 use Rattle.model.specs.declared.Model.{Model}
-use Rattle.model.specs.Lists.{any, each, total, range}
+use Rattle.std.specs.List.{list_any, flat_map}
+use Rattle.model.specs.Lists.{total, range}
 use Rattle.model.specs.Words.{size, has}
 use Rattle.model.specs.Clauses.{member_clauses, is_difference}
 use Rattle.model.specs.Model.{zero_group, zero_constraint, group_at, table_of, constraints_of, Sized}
@@ -31,7 +32,7 @@ over_constraints t F [] x = []
 over_constraints t F (c ∷ cs) x = F x c ++ over_constraints t F cs (x + difference_count t c)
 
 constraints-numbered : {B : Type 0} (t : List Group) (F : ℕ → Constraint → List B) (cs : List Constraint) (x k : ℕ)
-    → each (λ b. F (x + total (difference_count t) (take (b - k) cs)) (get_or cs (b - k) zero_constraint)) (range k (length cs)) ≡ over_constraints t F cs x
+    → flat_map (λ b. F (x + total (difference_count t) (take (b - k) cs)) (get_or cs (b - k) zero_constraint)) (range k (length cs)) ≡ over_constraints t F cs x
 constraints-numbered t F [] x k = refl
 constraints-numbered {B} t F (c ∷ cs) x k =
     let first : at (c ∷ cs) x k k ≡ F x c = let z : k - k ≡ 0 = omega arith in rw (z, add-zero x) in
@@ -47,7 +48,7 @@ constraints-numbered {B} t F (c ∷ cs) x k =
 -- the number of clauses does not depend on the numbering
 keep-count : {A : Type 0} (f g : A → Term) → ((a : A) → holds (f a) ≡ holds (g a)) → (l : List A) → length (keep (map f l)) ≡ length (keep (map g l))
 unfolding keep
-keep-count f g h l = rw (any-map holds f l, any-map holds g l, any-ext (λ a. holds (f a)) (λ a. holds (g a)) h l) (go (any (λ a. holds (g a)) l))
+keep-count f g h l = rw (any-map holds f l, any-map holds g l, any-ext (λ a. holds (f a)) (λ a. holds (g a)) h l) (go (list_any (λ a. holds (g a)) l))
   where
     go : (b : Bool) → length (cond b [] (literals (map f l) ∷ [])) ≡ length (cond b [] (literals (map g l) ∷ []))
     go true = refl
@@ -94,7 +95,7 @@ module _ (t : List Group) (c : Constraint) (x y : ℕ) where
       kept : ℕ → List Literal → List (List Literal)
       kept z ls = keep (map (term_of (constraint_term z t c e)) ls)
 
-      go : (b : Bool) → length (cond b [] (each (kept x) cs)) ≡ length (cond b [] (each (kept y) cs))
+      go : (b : Bool) → length (cond b [] (flat_map (kept x) cs)) ≡ length (cond b [] (flat_map (kept y) cs))
       go true = refl
       go false =
           length-each (kept x) cs
@@ -112,13 +113,13 @@ module _ (t : List Group) (c : Constraint) (x y : ℕ) where
   pub constraint-count : (n : ℕ) → length (constraint_clauses n t x c) ≡ length (constraint_clauses n t y c)
   unfolding constraint_clauses
   constraint-count n =
-      length-append (each (clauses_at x t c) (range 0 n)) (last_clause n x t c)
+      length-append (flat_map (clauses_at x t c) (range 0 n)) (last_clause n x t c)
       ∙ ap₂ (λ (p q : ℕ). p + q)
       (length-each (clauses_at x t c) (range 0 n)
       ∙ total_ext (λ e. length (clauses_at x t c e)) (λ e. length (clauses_at y t c e)) entrant-count (range 0 n)
       ∙ sym (length-each (clauses_at y t c) (range 0 n)))
       (last-count n)
-      ∙ sym (length-append (each (clauses_at y t c) (range 0 n)) (last_clause n y t c))
+      ∙ sym (length-append (flat_map (clauses_at y t c) (range 0 n)) (last_clause n y t c))
 
 pub constraints-counted : (n : ℕ) (t : List Group) (cs : List Constraint) (x : ℕ)
     → length (over_constraints t (constraint_clauses n t) cs x) ≡ total (λ c. length (constraint_clauses n t 0 c)) cs
@@ -139,12 +140,12 @@ module _ (m : Model) (z : Sized m) where
   constraints-length = length-take m.c m.constraints ∙ omega (arith, z.constraints)
 
   -- the constraints' blocks, one after the other
-  pub lines-parts : (k : ℕ) → each (λ b. line_clauses m (b - k)) (range (1 + k) m.c)
+  pub lines-parts : (k : ℕ) → flat_map (λ b. line_clauses m (b - k)) (range (1 + k) m.c)
       ≡ over_constraints (table_of m) (constraint_clauses m.n (table_of m)) (constraints_of m) (1 + table_variables (table_of m))
   unfolding line_clauses first_difference
   lines-parts k =
       each-range_ext (λ b. line_clauses m (b - k)) (λ b. at (b - (1 + k))) (1 + k) m.c (λ j l h. ap at {x = j - k - 1} {y = j - (1 + k)} (omega arith))
-      ∙ ap (λ (c : ℕ). each (λ b. at (b - (1 + k))) (range (1 + k) c)) (sym constraints-length)
+      ∙ ap (λ (c : ℕ). flat_map (λ b. at (b - (1 + k))) (range (1 + k) c)) (sym constraints-length)
       ∙ constraints-numbered (table_of m) (constraint_clauses m.n (table_of m)) (constraints_of m) (1 + table_variables (table_of m)) (1 + k)
     where
       at : ℕ → List (List Literal)

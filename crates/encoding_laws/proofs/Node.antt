@@ -12,7 +12,8 @@ use Rattle.model.specs.declared.Literal.TheVariants.{Pos}
 use Rattle.model.specs.declared.Printed.{Printed}
 use Rattle.model.specs.declared.Node.{Node}
 use Rattle.model.specs.declared.Term.TheVariants.{Fails, Open}
-use Rattle.model.specs.Lists.{every, any, range}
+use Rattle.std.specs.List.{list_all, list_any}
+use Rattle.model.specs.Lists.{range}
 use Rattle.model.specs.Totalizer.{up, down, formed, output, keep, node_terms, put_in, dropped, row_clauses, node_clauses}
 use Rattle.model.specs.Close.{truth, term_true, clause_true}
 use Rattle.model.proofs.Lists.{T-ext, T_true, T_false, every-each, every-ext, every-range, range-every}
@@ -51,7 +52,7 @@ down_iff false false false = (λ t p q. tt, λ h. tt)
 -- child C has x true outputs, child D has y
 module _ (a : List Bool) (t : Node) (x y : ℕ) (hx : x ≤ t.a) (hy : y ≤ t.b) (uc : Unary a t.c t.a x) (ud : Unary a t.d t.b y) where
   holds_in : Printed → Bool
-  holds_in f = any (term_true a) (node_terms t f)
+  holds_in f = list_any (term_true a) (node_terms t f)
 
   own : ℕ → Bool
   own r = term_true a (output t.n (t.a + t.b) r)
@@ -85,11 +86,11 @@ module _ (a : List Bool) (t : Node) (x y : ℕ) (hx : x ≤ t.a) (hy : y ≤ t.b
       every-each (clause_true a) keep (put_in t p q)
       ∙ ap₂ (λ (x y : Bool). x && (y && true)) (keep-true a (node_terms t (up p q))) (keep-true a (node_terms t (down p q)))
 
-  node_true : all_true a (node_clauses t) ≡ every (λ p. every (pair_true p) (range 0 (suc t.b))) (range 0 (suc t.a))
+  node_true : all_true a (node_clauses t) ≡ list_all (λ p. list_all (pair_true p) (range 0 (suc t.b))) (range 0 (suc t.a))
   unfolding node_clauses row_clauses
   node_true =
       every-each (clause_true a) (row_clauses t) (range 0 (suc t.a))
-      ∙ every-ext (λ p. all_true a (row_clauses t p)) (λ p. every (pair_true p) (range 0 (suc t.b)))
+      ∙ every-ext (λ p. all_true a (row_clauses t p)) (λ p. list_all (pair_true p) (range 0 (suc t.b)))
       (λ p. every-each (clause_true a) (dropped t p) (range 0 (suc t.b))
       ∙ every-ext (λ q. all_true a (dropped t p q)) (pair_true p) (dropped_true p) (range 0 (suc t.b)))
       (range 0 (suc t.a))
@@ -97,8 +98,8 @@ module _ (a : List Bool) (t : Node) (x y : ℕ) (hx : x ≤ t.a) (hy : y ≤ t.b
   cell : T (all_true a (node_clauses t)) → (p q : ℕ) → p ≤ t.a → q ≤ t.b → T (holds_in (up p q)) × T (holds_in (down p q))
   unfolding pair_true
   cell h p q hp hq =
-      let row : T (every (pair_true p) (range 0 (suc t.b))) =
-      every-range (λ p. every (pair_true p) (range 0 (suc t.b))) 0 (suc t.a) (subst T node_true h) p (omega arith) (omega arith) in
+      let row : T (list_all (pair_true p) (range 0 (suc t.b))) =
+      every-range (λ p. list_all (pair_true p) (range 0 (suc t.b))) 0 (suc t.a) (subst T node_true h) p (omega arith) (omega arith) in
       let s = (T_and (holds_in (up p q)) (holds_in (down p q) && true)).0 (every-range (pair_true p) 0 (suc t.b) row q (omega arith) (omega arith)) in
       (s.0, ((T_and (holds_in (down p q)) true).0 s.1).0)
 
@@ -106,7 +107,7 @@ module _ (a : List Bool) (t : Node) (x y : ℕ) (hx : x ≤ t.a) (hy : y ≤ t.b
   unfolding pair_true
   cells h =
       subst T (sym node_true)
-      (range-every (λ p. every (pair_true p) (range 0 (suc t.b))) 0 (suc t.a)
+      (range-every (λ p. list_all (pair_true p) (range 0 (suc t.b))) 0 (suc t.a)
       (λ p l k. range-every (pair_true p) 0 (suc t.b)
       (λ q l' k'. let s = h p q (omega arith) (omega arith) in
       (T_and (holds_in (up p q)) (holds_in (down p q) && true)).1 (s.0, (T_and (holds_in (down p q)) true).1 (s.1, tt)))))

@@ -17,7 +17,8 @@ use Rattle.model.specs.declared.Term.TheVariants.{Holds, Fails, Open}
 use Rattle.model.specs.declared.Group.{Group}
 use Rattle.model.specs.declared.Constraint.{Constraint}
 use Rattle.model.specs.declared.Model.{Model}
-use Rattle.model.specs.Lists.{any, each, range, is_empty}
+use Rattle.std.specs.List.{list_any, flat_map}
+use Rattle.model.specs.Lists.{range, is_empty}
 use Rattle.model.specs.Words.{full, less, size, bit, has}
 use Rattle.model.specs.Clauses.{by_entrant, member_count, member_clauses, short_clauses, is_difference, of_group, clauses_of}
 use Rattle.model.specs.Model.{zero_group, zero_constraint, group_at, member_at, table_of, constraints_of, constraint_in_range}
@@ -43,9 +44,9 @@ HasLiteral ls = T (not (is_empty ls))
 -- a clause is kept without literals only where every literal fails
 kept-filled : (ts : List Term) → (All (λ x. x ≡ Fails) ts → ⊥) → All HasLiteral (keep ts)
 unfolding keep
-kept-filled ts h = go (any holds ts) refl
+kept-filled ts h = go (list_any holds ts) refl
   where
-    fails : (ts : List Term) → any holds ts ≡ false → literals ts ≡ [] → All (λ x. x ≡ Fails) ts
+    fails : (ts : List Term) → list_any holds ts ≡ false → literals ts ≡ [] → All (λ x. x ≡ Fails) ts
     fails [] e f = tt
     fails (Holds ∷ ts) e f = absurd (let z : ◌≡◌ {A = ℕ} 0 1 = cc in omega arith)
     fails (Fails ∷ ts) e f = (refl, fails ts e f)
@@ -55,7 +56,7 @@ kept-filled ts h = go (any holds ts) refl
     some-literal [] k = absurd (k refl)
     some-literal (l ∷ ls) k = tt
 
-    go : (b : Bool) → any holds ts ≡ b → All HasLiteral (cond b [] (literals ts ∷ []))
+    go : (b : Bool) → list_any holds ts ≡ b → All HasLiteral (cond b [] (literals ts ∷ []))
     go true e = tt
     go false e = (some-literal (literals ts) (λ f. h (fails ts e f)), tt)
 
@@ -162,7 +163,7 @@ module _ (m : Model) (q : Settled m) where
       → All (λ ls. clause_rule (full m.n) ls (table_of m) ≡ table_of m) (clauses_of c) → All HasLiteral (constraint_clauses m.n (table_of m) x c)
   unfolding constraint_clauses
   six-filled x c six g k =
-      (all_both HasLiteral (each (clauses_at x (table_of m) c) (range 0 m.n)) (last_clause m.n x (table_of m) c)).1 (
+      (all_both HasLiteral (flat_map (clauses_at x (table_of m) c) (range 0 m.n)) (last_clause m.n x (table_of m) c)).1 (
         all-each HasLiteral (clauses_at x (table_of m) c) (range 0 m.n)
             (range_all (λ e. All HasLiteral (clauses_at x (table_of m) c e)) 0 m.n
             (λ e _ h. rw (six-at (table_of m) c six x e)
@@ -180,7 +181,7 @@ module _ (m : Model) (q : Settled m) where
   unfolding constraint_clauses difference member_at fixed_bit possible_bit
   seven-filled x c seven may =
       let t = table_of m in
-      (all_both HasLiteral (each (clauses_at x t c) (range 0 m.n)) (last_clause m.n x t c)).1 (
+      (all_both HasLiteral (flat_map (clauses_at x t c) (range 0 m.n)) (last_clause m.n x t c)).1 (
         all-each HasLiteral (clauses_at x t c) (range 0 m.n) (range_all (λ e. All HasLiteral (clauses_at x t c e)) 0 m.n (λ e _ h. entrant e (is_apart t c) refl)),
         last (is_apart t c) refl,
       )
@@ -272,7 +273,7 @@ module _ (m : Model) (q : Settled m) where
   no-clauses : (x : ℕ) → All HasLiteral (constraint_clauses m.n (table_of m) x zero_constraint)
   unfolding constraint_clauses clauses_at zero_constraint member_clauses short_clauses is_apart is_open_difference is_difference last_clause
   no-clauses x =
-      (all_both HasLiteral (each (clauses_at x (table_of m) zero_constraint) (range 0 m.n)) []).1 (
+      (all_both HasLiteral (flat_map (clauses_at x (table_of m) zero_constraint) (range 0 m.n)) []).1 (
         all-each HasLiteral (clauses_at x (table_of m) zero_constraint) (range 0 m.n)
             (range_all (λ e. All HasLiteral (clauses_at x (table_of m) zero_constraint e)) 0 m.n (λ e _ h. tt)),
         tt,
@@ -299,12 +300,12 @@ module _ (m : Model) (q : Settled m) where
       x : ℕ
       x = first_difference (1 + table_variables (table_of m)) m (b - k)
 
-      none-empty : (cs : List (List Literal)) → All HasLiteral cs → T (not (any is_empty cs))
+      none-empty : (cs : List (List Literal)) → All HasLiteral cs → T (not (list_any is_empty cs))
       none-empty [] h = tt
       none-empty ([] ∷ cs) h = absurd h.0
       none-empty ((l ∷ ls) ∷ cs) h = none-empty cs h.1
 
-      go : (x : Bool) → ltb k b ≡ x → T (not (x && any is_empty (block_clauses m b)))
+      go : (x : Bool) → ltb k b ≡ x → T (not (x && list_any is_empty (block_clauses m b)))
       go false e = tt
       go true e =
           rw (line-block m b (ltb-true k b e))

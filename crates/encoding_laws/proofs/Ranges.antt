@@ -17,7 +17,8 @@ use Rattle.model.specs.declared.Node.{Node}
 use Rattle.model.specs.declared.Group.{Group}
 use Rattle.model.specs.declared.Constraint.{Constraint}
 use Rattle.model.specs.declared.Model.{Model}
-use Rattle.model.specs.Lists.{any, each, total, range}
+use Rattle.std.specs.List.{list_any, flat_map}
+use Rattle.model.specs.Lists.{total, range}
 use Rattle.model.specs.Words.{size, bit, has}
 use Rattle.model.specs.Clauses.{member_clauses, is_difference}
 use Rattle.model.specs.Model.{zero_group, zero_constraint, group_at, table_of, constraints_of}
@@ -61,7 +62,7 @@ module _ (lo hi : ℕ) where
 
   keep-in : (ts : List Term) → All InTerm ts → InAll (keep ts)
   unfolding keep
-  keep-in ts h = go (any holds ts)
+  keep-in ts h = go (list_any holds ts)
     where
       literals-in : (ts : List Term) → All InTerm ts → All In (literals ts)
       literals-in [] h = tt
@@ -242,7 +243,7 @@ module _ (n : ℕ) (t : List Group) (s : All (SettledAmong n) t) (hi : ℕ) (roo
         kept : List Literal → List (List Literal)
         kept ls = keep (map (term_of (constraint_term x t c e)) ls)
 
-        go : (b : Bool) → InAll 1 hi (cond b [] (each kept cs))
+        go : (b : Bool) → InAll 1 hi (cond b [] (flat_map kept cs))
         go true = tt
         go false =
             all-each (All (In 1 hi)) kept cs
@@ -263,7 +264,7 @@ module _ (n : ℕ) (t : List Group) (s : All (SettledAmong n) t) (hi : ℕ) (roo
     pub constraint-in : (k : ℕ) → InAll 1 hi (constraint_clauses k t x c)
     unfolding constraint_clauses
     constraint-in k =
-        (all_both (All (In 1 hi)) (each (clauses_at x t c) (range 0 k)) (last_clause k x t c)).1 (
+        (all_both (All (In 1 hi)) (flat_map (clauses_at x t c) (range 0 k)) (last_clause k x t c)).1 (
           all-each (All (In 1 hi)) (clauses_at x t c) (range 0 k) (all_of (λ e. InAll 1 hi (clauses_at x t c e)) entrant-in (range 0 k)),
           last-in k,
         )
@@ -314,7 +315,7 @@ module _ (m : Model) (q : Settled m) where
   variables-in =
       let t = table_of m in
       let hi = suc (variable_count m) in
-      let gs = each (group_clauses t) (range 1 m.s) in
+      let gs = flat_map (group_clauses t) (range 1 m.s) in
       let cs = over_constraints t (constraint_clauses m.n t) (constraints_of m) (1 + table_variables t) in
       subst (VariablesIn m) (sym (clauses-parts m q))
       ((all_both (All (In 1 hi)) gs cs).1 (

@@ -8,7 +8,8 @@ use native.Mathlib.Omega.{arith}
 use native.Mathlib.Decide.{dec_lt}
 use lib.Dec.{eqb}
 use lib.ListN.{length}
-use Rattle.model.specs.Lists.{those, each, range}
+use Rattle.std.specs.List.{flat_map}
+use Rattle.model.specs.Lists.{those, range}
 use Rattle.model.specs.Words.{size, bit, has, word_where}
 use Rattle.model.specs.Fill.{open_values, count}
 use Rattle.model.proofs.Words.{bit-first, bit-next, bit_le, bit_past, has_first, has-next, has_one, has-none, has_where, word_first, word_ext, where_lt, size_step, size-zero, size_below}
@@ -23,16 +24,16 @@ row_word α n f o v = word_where (in_row α f o v) n
 
 -- ---- the values of the open entrants, entrant by entrant and digit by digit
 
-pub open_each : (n o w : ℕ) → open_values n o w ≡ each (λ e. cond (has o e) (has w e ∷ []) []) (range 0 n)
+pub open_each : (n o w : ℕ) → open_values n o w ≡ flat_map (λ e. cond (has o e) (has w e ∷ []) []) (range 0 n)
 unfolding open_values
 open_each n o w = go (range 0 n)
   where
-    go : (es : List ℕ) → map (has w) (those (has o) es) ≡ each (λ e. cond (has o e) (has w e ∷ []) []) es
+    go : (es : List ℕ) → map (has w) (those (has o) es) ≡ flat_map (λ e. cond (has o e) (has w e ∷ []) []) es
     go [] = refl
     go (e ∷ es) = one (has o e) (go es)
       where
-        one : (b : Bool) → map (has w) (those (has o) es) ≡ each (λ e. cond (has o e) (has w e ∷ []) []) es
-            → map (has w) (elim b [ true ↦ e ∷ those (has o) es | false ↦ those (has o) es ]) ≡ cond b (has w e ∷ []) [] ++ each (λ e. cond (has o e) (has w e ∷ []) []) es
+        one : (b : Bool) → map (has w) (those (has o) es) ≡ flat_map (λ e. cond (has o e) (has w e ∷ []) []) es
+            → map (has w) (elim b [ true ↦ e ∷ those (has o) es | false ↦ those (has o) es ]) ≡ cond b (has w e ∷ []) [] ++ flat_map (λ e. cond (has o e) (has w e ∷ []) []) es
         one true ih = ap (λ (xs : List Bool). has w e ∷ xs) ih
         one false ih = ih
 
@@ -49,7 +50,7 @@ open_step n o w =
     ∙ ap (λ (xs : List Bool). cond (eqb (o % 2) 1) (eqb (w % 2) 1 ∷ []) [] ++ xs) (sym (open_each n (o / 2) (w / 2)))
     ∙ put (o % 2) (omega arith) (open_values n (o / 2) (w / 2))
   where
-    each_next : (f g : ℕ → List Bool) (i j k : ℕ) → ((e : ℕ) → f (suc e) ≡ g e) → each f (range (suc j) k) ≡ each g (range j k)
+    each_next : (f g : ℕ → List Bool) (i j k : ℕ) → ((e : ℕ) → f (suc e) ≡ g e) → flat_map f (range (suc j) k) ≡ flat_map g (range j k)
     each_next f g i j zero h = refl
     each_next f g i j (suc k) h = ap₂ (λ (a b : List Bool). a ++ b) (h j) (each_next f g i (suc j) k h)
 

@@ -14,7 +14,8 @@ use Rattle.model.specs.declared.Literal.{Literal}
 use Rattle.model.specs.declared.Group.{Group}
 use Rattle.model.specs.declared.Node.{Node}
 use Rattle.model.specs.declared.Model.{Model}
-use Rattle.model.specs.Lists.{each, range}
+use Rattle.std.specs.List.{flat_map}
+use Rattle.model.specs.Lists.{range}
 use Rattle.model.specs.Model.{group_at, table_of}
 use Rattle.model.specs.Totalizer.{dropped, row_clauses, node_clauses, Shape, leaf, node, shape_in, shape, leaves, outputs, node_over, nodes, root_output, unit_clauses, tree_blocks, totalizer_blocks}
 use Rattle.model.specs.Cnf.{open_count, at_least, at_most, counted, first_variable, first_output, group_blocks, node_blocks}
@@ -75,17 +76,17 @@ tree_root m v o h =
 
 -- ---- a node's clauses, divided at p and q
 
-each_at : {B : Type 0} (f : ℕ → List B) (k n : ℕ) → k ≤ n → each f (range 0 (suc n)) ≡ each f (range 0 k) ++ (f k ++ each f (range (suc k) (n - k)))
+each_at : {B : Type 0} (f : ℕ → List B) (k n : ℕ) → k ≤ n → flat_map f (range 0 (suc n)) ≡ flat_map f (range 0 k) ++ (f k ++ flat_map f (range (suc k) (n - k)))
 each_at f k n h =
     let e : suc n ≡ k + suc (n - k) = omega arith in
-    ap (λ (i : ℕ). each f (range 0 i)) e
-    ∙ ap (each f) (range-append 0 k (suc (n - k)))
+    ap (λ (i : ℕ). flat_map f (range 0 i)) e
+    ∙ ap (flat_map f) (range-append 0 k (suc (n - k)))
     ∙ each_append f (range 0 k) (range (0 + k) (suc (n - k)))
-    ∙ ap (λ (i : ℕ). each f (range 0 k) ++ (f i ++ each f (range (suc i) (n - k)))) (zero-add k)
+    ∙ ap (λ (i : ℕ). flat_map f (range 0 k) ++ (f i ++ flat_map f (range (suc i) (n - k)))) (zero-add k)
 
 -- the node's clauses after those of p and q
 abbrev later : Node → ℕ → ℕ → List (List Literal)
-later t p q = each (dropped t p) (range (suc q) (t.b - q)) ++ each (row_clauses t) (range (suc p) (t.a - p))
+later t p q = flat_map (dropped t p) (range (suc q) (t.b - q)) ++ flat_map (row_clauses t) (range (suc p) (t.a - p))
 
 regroup : {A : Type 0} (r q l q' r' : List A) → r ++ ((q ++ (l ++ q')) ++ r') ≡ (r ++ q) ++ (l ++ (q' ++ r'))
 regroup r q l q' r' = simp append_assoc refl
@@ -94,10 +95,10 @@ node_at_lem : (t : Node) (p q : ℕ) → p ≤ t.a → q ≤ t.b → node_clause
 unfolding node_clauses row_clauses earlier
 node_at_lem t p q hp hq =
     each_at (row_clauses t) p t.a hp
-    ∙ ap (λ (x : List (List Literal)). each (row_clauses t) (range 0 p) ++ (x ++ each (row_clauses t) (range (suc p) (t.a - p))))
+    ∙ ap (λ (x : List (List Literal)). flat_map (row_clauses t) (range 0 p) ++ (x ++ flat_map (row_clauses t) (range (suc p) (t.a - p))))
     (each_at (dropped t p) q t.b hq)
-    ∙ regroup (each (row_clauses t) (range 0 p)) (each (dropped t p) (range 0 q)) (dropped t p q) (each (dropped t p) (range (suc q) (t.b - q)))
-    (each (row_clauses t) (range (suc p) (t.a - p)))
+    ∙ regroup (flat_map (row_clauses t) (range 0 p)) (flat_map (dropped t p) (range 0 q)) (dropped t p q) (flat_map (dropped t p) (range (suc q) (t.b - q)))
+    (flat_map (row_clauses t) (range (suc p) (t.a - p)))
 
 -- ---- each block starts with its node's clauses
 
@@ -144,9 +145,9 @@ over-group t g = go (counted r)
     go true = over_tree (shape (open_count r)) (first_variable t g) (first_output t g) us
     go false = tt
 
-over-groups : (t : List Group) (gs : List ℕ) → Over (each (group_nodes t) gs) (each (group_blocks t) gs)
+over-groups : (t : List Group) (gs : List ℕ) → Over (flat_map (group_nodes t) gs) (flat_map (group_blocks t) gs)
 over-groups t [] = tt
-over-groups t (g ∷ gs) = over-append (group_nodes t g) (each (group_nodes t) gs) (group_blocks t g) (each (group_blocks t) gs) (over-group t g) (over-groups t gs)
+over-groups t (g ∷ gs) = over-append (group_nodes t g) (flat_map (group_nodes t) gs) (group_blocks t g) (flat_map (group_blocks t) gs) (over-group t g) (over-groups t gs)
 
 over-at : (before : List Node) (t : Node) (after : List Node) (bs : List (List (List Literal))) → Over (before ++ (t ∷ after)) bs
     → (length before < length bs) × Starts t (get_or bs (length before) [])
@@ -163,8 +164,8 @@ at_place x l y z =
     ∙ ap (take (length l)) (drop_at x (l ++ (y ++ z)) (length x) refl)
     ∙ take_at l (y ++ z) (length l) refl
 
-text-parts : (x l y : List (List Literal)) → each clause_text (x ++ (l ++ y)) ≡ each clause_text x ++ (each clause_text l ++ each clause_text y)
-text-parts x l y = each_append clause_text x (l ++ y) ∙ ap (λ (w : List ℕ). each clause_text x ++ w) (each_append clause_text l y)
+text-parts : (x l y : List (List Literal)) → flat_map clause_text (x ++ (l ++ y)) ≡ flat_map clause_text x ++ (flat_map clause_text l ++ flat_map clause_text y)
+text-parts x l y = each_append clause_text x (l ++ y) ∙ ap (λ (w : List ℕ). flat_map clause_text x ++ w) (each_append clause_text l y)
 
 module _ (m : Model) where
   group-sizes : (g : ℕ) → All (NodeOf (open_count (group_at (table_of m) g))) (group_nodes (table_of m) g)
@@ -190,13 +191,13 @@ module _ (m : Model) where
       go true t = tree_root (open_count r) (first_variable (table_of m) g) (first_output (table_of m) g) two
       go false t = absurd t
 
-  block-text : (b : ℕ) → 1 ≤ b → b ≤ length (node_blocks m) → block_text m b ≡ each clause_text (get_or (node_blocks m) (b - 1) [])
+  block-text : (b : ℕ) → 1 ≤ b → b ≤ length (node_blocks m) → block_text m b ≡ flat_map clause_text (get_or (node_blocks m) (b - 1) [])
   unfolding block_text
-  block-text b one top = let z : eqb b 0 ≡ false = ne_eqb b 0 (λ e. omega arith) in rw z (ap (each clause_text) (node_block m b top))
+  block-text b one top = let z : eqb b 0 ≡ false = ne_eqb b 0 (λ e. omega arith) in rw z (ap (flat_map clause_text) (node_block m b top))
 
   block_written : (b : ℕ) (tail : List ℕ) (before : List Node) (t : Node) (after : List Node) → block_nodes m ≡ before ++ (t ∷ after) → b ≡ suc (length before)
       → (p q : ℕ) → p ≤ t.a → q ≤ t.b
-      → take (length (each clause_text (dropped t p q))) (drop (place_of t p q) (block_text m b ++ tail)) ≡ each clause_text (dropped t p q)
+      → take (length (flat_map clause_text (dropped t p q))) (drop (place_of t p q) (block_text m b ++ tail)) ≡ flat_map clause_text (dropped t p q)
   unfolding block_nodes node_blocks place_of
   block_written b tail before t after e here p q hp hq =
       let h = over-at before t after (node_blocks m) (subst (λ (ns : List Node). Over ns (node_blocks m)) e (over-groups (table_of m) (range 1 m.s))) in
@@ -207,9 +208,9 @@ module _ (m : Model) where
       let at : b - 1 ≡ length before = omega arith in
       let is : get_or (node_blocks m) (b - 1) [] ≡ x ++ (l ++ y) =
       ap (λ (i : ℕ). get_or (node_blocks m) i []) at ∙ h.1.1 ∙ ap (λ (c : List (List Literal)). c ++ units) (node_at_lem t p q hp hq) ∙ simp append_assoc refl in
-      ap (λ (w : List ℕ). take (length (each clause_text l)) (drop (length (each clause_text x)) (w ++ tail)))
-      (block-text b (omega arith) (omega (arith, h.0)) ∙ ap (each clause_text) is ∙ text-parts x l y)
-      ∙ at_place (each clause_text x) (each clause_text l) (each clause_text y) tail
+      ap (λ (w : List ℕ). take (length (flat_map clause_text l)) (drop (length (flat_map clause_text x)) (w ++ tail)))
+      (block-text b (omega arith) (omega (arith, h.0)) ∙ ap (flat_map clause_text) is ∙ text-parts x l y)
+      ∙ at_place (flat_map clause_text x) (flat_map clause_text l) (flat_map clause_text y) tail
 
   -- whatever stands after the block's text
   pub by-steps : (b : ℕ) (tail : List ℕ) → BySteps m b (block_text m b ++ tail)

@@ -2,7 +2,7 @@
 use mathlib.Core.Path.{◌≡◌, refl, sym, ap, ◌∙◌}
 use mathlib.Core.Bool.{false, not}
 use mathlib.Core.List.{List, [], ◌∷◌, ◌++◌, map, append_assoc, append-nil}
-use mathlib.Core.Option.{some}
+use Rattle.std.specs.Prelude.{Some}
 use Prim.Native.Nat.{ℕ, zero, suc, ◌+◌, ◌≤◌, ◌<◌}
 use native.Mathlib.Numerals.{add-one}
 use native.Mathlib.Omega.{arith}
@@ -12,7 +12,8 @@ use lib.ListN.{length, get_or}
 use Rattle.model.specs.declared.Literal.{Literal}
 use Rattle.model.specs.declared.Literal.TheVariants.{Pos, Neg}
 use Rattle.model.specs.declared.Model.{Model}
-use Rattle.model.specs.Lists.{those, each, range, is_empty}
+use Rattle.std.specs.List.{flat_map}
+use Rattle.model.specs.Lists.{those, range, is_empty}
 use Rattle.model.specs.Propagate.{Settled}
 use Rattle.model.specs.Cnf.{variable_count, block_count, clause_count, block_clauses, clauses}
 use Rattle.model.specs.Sheet.{on_first, lines_of}
@@ -36,7 +37,7 @@ literal_word (Pos v) = decimal v
 literal_word (Neg v) = 45 ∷ decimal v
 
 unfoldable pub clause_line : List Literal → List ℕ
-clause_line c = each literal_text c ++ (48 ∷ [])
+clause_line c = flat_map literal_text c ++ (48 ∷ [])
 
 header-line : (m : Model) → header_text m ≡ header_line m ++ (10 ∷ [])
 unfolding header_text header_line
@@ -44,19 +45,19 @@ header-line m = refl
 
 clause-line : (c : List Literal) → clause_text c ≡ clause_line c ++ (10 ∷ [])
 unfolding clause_text clause_line
-clause-line c = sym (append_assoc (each literal_text c) (48 ∷ []) (10 ∷ []))
+clause-line c = sym (append_assoc (flat_map literal_text c) (48 ∷ []) (10 ∷ []))
 
 literal-word : (l : Literal) → literal_text l ≡ literal_word l ++ (32 ∷ [])
 unfolding literal_text literal_word
 literal-word (Pos v) = refl
 literal-word (Neg v) = refl
 
-pub listing-parts : (m : Model) → listing m ≡ header_text m ++ each clause_text (clauses m)
+pub listing-parts : (m : Model) → listing m ≡ header_text m ++ flat_map clause_text (clauses m)
 unfolding listing block_text clauses
 listing-parts m =
-    ap (λ (k : ℕ). each (block_text m) (range 0 k)) (add-one (block_count m))
+    ap (λ (k : ℕ). flat_map (block_text m) (range 0 k)) (add-one (block_count m))
     ∙ ap (λ (l : List ℕ). header_text m ++ l)
-    (each-range_ext (block_text m) (λ b. each clause_text (block_clauses m b)) 1 (block_count m)
+    (each-range_ext (block_text m) (λ b. flat_map clause_text (block_clauses m b)) 1 (block_count m)
     (λ b l k. let e : eqb b 0 ≡ false = ne_eqb b 0 (λ z. omega arith) in rw e)
     ∙ sym (each-each clause_text (block_clauses m) (range 1 (block_count m))))
 
@@ -72,7 +73,7 @@ digits-printed v =
 line-printed : (c : List Literal) → All Printed (clause_line c)
 unfolding clause_line literal_text
 line-printed c =
-    (all_both Printed (each literal_text c) (48 ∷ [])).1
+    (all_both Printed (flat_map literal_text c) (48 ∷ [])).1
     (all-each Printed literal_text c (all_of (λ l. All Printed (literal_text l)) one c), ((omega arith, omega arith), tt))
   where
     one : (l : Literal) → All Printed (literal_text l)
@@ -87,12 +88,12 @@ line-cut (b ∷ l) rest h =
     let e : eqb b 10 ≡ false = ne_eqb b 10 (λ z. let k = h.0 in omega arith) in
     rw (e, line-cut l rest h.1)
 
-lines_of_lem : (cs : List (List Literal)) → lines_of (each clause_text cs) ≡ map clause_line cs
+lines_of_lem : (cs : List (List Literal)) → lines_of (flat_map clause_text cs) ≡ map clause_line cs
 lines_of_lem [] = refl
 lines_of_lem (c ∷ cs) =
-    ap (λ (l : List ℕ). lines_of (l ++ each clause_text cs)) (clause-line c)
-    ∙ ap lines_of (append_assoc (clause_line c) (10 ∷ []) (each clause_text cs))
-    ∙ line-cut (clause_line c) (each clause_text cs) (all-imp Printed (λ b. 32 ≤ b) (λ b h. h.0) (clause_line c) (line-printed c))
+    ap (λ (l : List ℕ). lines_of (l ++ flat_map clause_text cs)) (clause-line c)
+    ∙ ap lines_of (append_assoc (clause_line c) (10 ∷ []) (flat_map clause_text cs))
+    ∙ line-cut (clause_line c) (flat_map clause_text cs) (all-imp Printed (λ b. 32 ≤ b) (λ b h. h.0) (clause_line c) (line-printed c))
     ∙ ap {B = List (List ℕ)} (λ l. clause_line c ∷ l) (lines_of_lem cs)
 
 header-printed : (m : Model) → All (λ b. 32 ≤ b) (header_line m)
@@ -111,11 +112,11 @@ header-printed m =
       d (clause_count m),
     )
 
-text-lines : (m : Model) (cs : List (List Literal)) → lines_of (header_text m ++ each clause_text cs) ≡ header_line m ∷ map clause_line cs
+text-lines : (m : Model) (cs : List (List Literal)) → lines_of (header_text m ++ flat_map clause_text cs) ≡ header_line m ∷ map clause_line cs
 text-lines m cs =
-    ap (λ (l : List ℕ). lines_of (l ++ each clause_text cs)) (header-line m)
-    ∙ ap lines_of (append_assoc (header_line m) (10 ∷ []) (each clause_text cs))
-    ∙ line-cut (header_line m) (each clause_text cs) (header-printed m)
+    ap (λ (l : List ℕ). lines_of (l ++ flat_map clause_text cs)) (header-line m)
+    ∙ ap lines_of (append_assoc (header_line m) (10 ∷ []) (flat_map clause_text cs))
+    ∙ line-cut (header_line m) (flat_map clause_text cs) (header-printed m)
     ∙ ap {B = List (List ℕ)} (λ l. header_line m ∷ l) (lines_of_lem cs)
 
 no_comments : (m : Model) (cs : List (List Literal))
@@ -176,12 +177,12 @@ clause-tokens c =
     ((all_both (λ w. T (not (is_empty w))) (map literal_word c) ((48 ∷ []) ∷ [])).1
     ((all-map-iff (λ w. T (not (is_empty w))) literal_word c).1 (all_of (λ l. T (not (is_empty (literal_word l)))) word-filled c), (tt, tt)))
   where
-    words : (c : List Literal) → pieces (each literal_text c ++ (48 ∷ [])) ≡ map literal_word c ++ ((48 ∷ []) ∷ [])
+    words : (c : List Literal) → pieces (flat_map literal_text c ++ (48 ∷ [])) ≡ map literal_word c ++ ((48 ∷ []) ∷ [])
     words [] = piece_last (48 ∷ []) (omega arith) (omega arith, tt)
     words (l ∷ c) =
-        ap (λ (w : List ℕ). pieces (w ++ each literal_text c ++ (48 ∷ []))) (literal-word l)
-        ∙ ap pieces (append_assoc (literal_word l ++ (32 ∷ [])) (each literal_text c) (48 ∷ []) ∙ append_assoc (literal_word l) (32 ∷ []) (each literal_text c ++ (48 ∷ [])))
-        ∙ piece_cut (literal_word l) (each literal_text c ++ (48 ∷ [])) (word_solid l)
+        ap (λ (w : List ℕ). pieces (w ++ flat_map literal_text c ++ (48 ∷ []))) (literal-word l)
+        ∙ ap pieces (append_assoc (literal_word l ++ (32 ∷ [])) (flat_map literal_text c) (48 ∷ []) ∙ append_assoc (literal_word l) (32 ∷ []) (flat_map literal_text c ++ (48 ∷ [])))
+        ∙ piece_cut (literal_word l) (flat_map literal_text c ++ (48 ∷ [])) (word_solid l)
         ∙ ap {B = List (List ℕ)} (λ ws. literal_word l ∷ ws) (words c)
 
 -- block 0's line is the words p, cnf, V and C
@@ -209,12 +210,12 @@ word_number : (l : Literal) → 1 ≤ variable l → number (literal_word l) ≡
 unfolding literal_word number
 word_number (Pos v) h = number_digits (decimal v) (decimal-some v) (decimal-digits v) ∙ ap (signed_number Pos) (decimal-natural v) ∙ go v h
   where
-    go : (v : ℕ) → 1 ≤ v → signed_number Pos (some v) ≡ literal (Pos v)
+    go : (v : ℕ) → 1 ≤ v → signed_number Pos (Some v) ≡ literal (Pos v)
     go zero h = absurd (omega arith)
     go (suc v) h = refl
 word_number (Neg v) h = ap (signed_number Neg) (decimal-natural v) ∙ go v h
   where
-    go : (v : ℕ) → 1 ≤ v → signed_number Neg (some v) ≡ literal (Neg v)
+    go : (v : ℕ) → 1 ≤ v → signed_number Neg (Some v) ≡ literal (Neg v)
     go zero h = absurd (omega arith)
     go (suc v) h = refl
 
@@ -231,35 +232,35 @@ clause-read begun (l ∷ c) ws h =
     rw (word_number l h.0)
     (clause-read (begun ++ (l ∷ [])) c ws h.1 ∙ ap (λ (b : List Literal). more b end (clauses_from [] ws)) (append_assoc begun (l ∷ []) c))
 
-clauses-read : (cs : List (List Literal)) → All (All (λ l. 1 ≤ variable l)) cs → clauses_from [] (each tokens (map clause_line cs)) ≡ some cs
+clauses-read : (cs : List (List Literal)) → All (All (λ l. 1 ≤ variable l)) cs → clauses_from [] (flat_map tokens (map clause_line cs)) ≡ Some cs
 clauses-read [] h = refl
 clauses-read (c ∷ cs) h =
-    ap (λ (ws : List (List ℕ)). clauses_from [] (ws ++ each tokens (map clause_line cs))) (clause-tokens c)
-    ∙ ap (clauses_from []) (append_assoc (map literal_word c) ((48 ∷ []) ∷ []) (each tokens (map clause_line cs)))
-    ∙ clause-read [] c (each tokens (map clause_line cs)) h.0
+    ap (λ (ws : List (List ℕ)). clauses_from [] (ws ++ flat_map tokens (map clause_line cs))) (clause-tokens c)
+    ∙ ap (clauses_from []) (append_assoc (map literal_word c) ((48 ∷ []) ∷ []) (flat_map tokens (map clause_line cs)))
+    ∙ clause-read [] c (flat_map tokens (map clause_line cs)) h.0
     ∙ ap (more c end) (clauses-read cs h.1)
 
 -- ---- the whole text
 
 -- what a text says with the header of m and some clauses
 pub text-reads : (m : Model) (cs : List (List Literal)) → All (All (λ l. 1 ≤ variable l)) cs
-    → read_dimacs (header_text m ++ each clause_text cs)
-    ≡ some (record { variables = variable_count m; clause_count = clause_count m; clauses = cs })
+    → read_dimacs (header_text m ++ flat_map clause_text cs)
+    ≡ Some (record { variables = variable_count m; clause_count = clause_count m; clauses = cs })
 unfolding read_dimacs with_header
 text-reads m cs h =
     ap (λ (ls : List (List ℕ)). formula_of (those (λ l. not (is_comment l)) ls)) (text-lines m cs)
     ∙ ap formula_of (no_comments m cs)
-    ∙ ap (λ (ws : List (List ℕ)). with_header ws (clauses_from [] (each tokens (map clause_line cs)))) (header-tokens m)
+    ∙ ap (λ (ws : List (List ℕ)). with_header ws (clauses_from [] (flat_map tokens (map clause_line cs)))) (header-tokens m)
     ∙ rw (decimal-natural (variable_count m), decimal-natural (clause_count m), clauses-read cs h)
 
 -- block 0 alone reads as V and C
-pub header-reads : (m : Model) → read_dimacs (block_text m 0) ≡ some (record { variables = variable_count m; clause_count = clause_count m; clauses = [] })
+pub header-reads : (m : Model) → read_dimacs (block_text m 0) ≡ Some (record { variables = variable_count m; clause_count = clause_count m; clauses = [] })
 unfolding block_text
 header-reads m = ap read_dimacs (sym (append-nil (header_text m))) ∙ text-reads m [] tt
 
 -- the listing reads as V, C and the clauses
 pub listing-reads : (m : Model) → Settled m
-    → read_dimacs (listing m) ≡ some (record { variables = variable_count m; clause_count = clause_count m; clauses = clauses m })
+    → read_dimacs (listing m) ≡ Some (record { variables = variable_count m; clause_count = clause_count m; clauses = clauses m })
 listing-reads m q =
     ap read_dimacs (listing-parts m)
     ∙ text-reads m (clauses m)
@@ -274,6 +275,6 @@ same-listing m q = record {
   groups = group-whole m q;
   bytes =
       listing-parts m
-      ∙ ap (λ (cs : List (List Literal)). header_text m ++ each clause_text cs) (sym (by-group-parts m q))
+      ∙ ap (λ (cs : List (List Literal)). header_text m ++ flat_map clause_text cs) (sym (by-group-parts m q))
       ∙ ap (λ (text : List ℕ). header_text m ++ text) (each-each clause_text (clauses_by_group m) (range 1 (m.s + m.c)));
 }

@@ -18,7 +18,8 @@ use Rattle.model.specs.declared.Term.TheVariants.{Holds, Fails, Open}
 use Rattle.model.specs.declared.Group.{Group}
 use Rattle.model.specs.declared.Constraint.{Constraint}
 use Rattle.model.specs.declared.Model.{Model}
-use Rattle.model.specs.Lists.{every, any, pairwise, each, each_pair, total, range, between}
+use Rattle.std.specs.List.{list_all, list_any, flat_map}
+use Rattle.model.specs.Lists.{pairwise, each_pair, total, range, between}
 use Rattle.model.specs.Limits.{limits}
 use Rattle.model.specs.Words.{less, size, inside, bit, has}
 use Rattle.model.specs.Clauses.{by_entrant, member_count, member_clauses, is_difference}
@@ -281,7 +282,7 @@ module _ (n : ℕ) (a : List Bool) where
       (words_of rs ws (v + k) (o + outputs_of r) s.1 (and_right (allowed r w) (pairwise allowed rs ws) h) p.1)
 
   groups-iff : (t : List Group) (v o : ℕ) → All (SettledAmong n) t
-      → T (every (all_true a) (over_groups clauses_from t v o))
+      → T (list_all (all_true a) (over_groups clauses_from t v o))
       ↔ ((values_from a o (total outputs_of t) ≡ fill_all t (values_from a v (total open_count t))) × T (pairwise allowed t (over_groups (word_from n a) t v o)))
   groups-iff [] v o s = (λ t. (refl, tt), λ h. tt)
   groups-iff (r ∷ rs) v o s =
@@ -293,7 +294,7 @@ module _ (n : ℕ) (a : List Bool) where
       let g = group-iff n a r v o s.0 in
       let l = allowed-iff n a r v o s.0 in
       let b = groups-iff rs (v + k) (o + j) s.1 in
-      let c = T_and (all_true a (clauses_from r v o)) (every (all_true a) (over_groups clauses_from rs (v + k) (o + j))) in
+      let c = T_and (all_true a (clauses_from r v o)) (list_all (all_true a) (over_groups clauses_from rs (v + k) (o + j))) in
       let w = T_and (allowed r (word_from n a r v o)) (pairwise allowed rs (over_groups (word_from n a) rs (v + k) (o + j))) in
       let z =
       append-iff (values_from a o j) (values_from a (o + j) (total outputs_of rs)) (fill_of r xs) (fill_all rs ys)
@@ -326,7 +327,7 @@ unfolding difference_values difference_count
 differences-length n t s d c = open_length n (differing t c) (one_of (member_set d c 0) (member_set d c 1)) (differing-lt n t s c)
 
 differences-total : (n : ℕ) (t : List Group) → All (SettledAmong n) t → (d : List ℕ) (cs : List Constraint)
-    → length (each (difference_values n t d) cs) ≡ total (difference_count t) cs
+    → length (flat_map (difference_values n t d) cs) ≡ total (difference_count t) cs
 differences-total n t s d cs =
     length-each (difference_values n t d) cs ∙ total_ext (λ c. length (difference_values n t d c)) (difference_count t) (differences-length n t s d) cs
 
@@ -361,7 +362,7 @@ module _ (m : Model) (a : List Bool) where
       let cs = member_clauses c.code c.count in
       rw (six-apart (table_of m) c six)
       (kept-true a (term_of term) cs
-      ∙ every-ext (any (λ l. term_true a (term_of term l))) (any (literal_for v)) (any-ext (λ l. term_true a (term_of term l)) (literal_for v) one) cs)
+      ∙ every-ext (list_any (λ l. term_true a (term_of term l))) (list_any (literal_for v)) (any-ext (λ l. term_true a (term_of term l)) (literal_for v) one) cs)
     where
       term : ℕ → Term
       term = constraint_term x (table_of m) c e
@@ -378,11 +379,11 @@ module _ (m : Model) (a : List Bool) where
       → ((i e : ℕ) → i < member_count c.code c.count → e < m.n
       → has (set_of d (get_or c.groups i 0)) e ≡ term_true a (membership (table_of m) e (get_or c.groups i 0)))
       → all_true a (constraint_clauses m.n (table_of m) x c)
-      ≡ every (λ e. clauses_for (λ i. has (set_of d (get_or c.groups i 0)) e) (member_clauses c.code c.count)) (range 0 m.n)
+      ≡ list_all (λ e. clauses_for (λ i. has (set_of d (get_or c.groups i 0)) e) (member_clauses c.code c.count)) (range 0 m.n)
   unfolding constraint_clauses
   constraint-entrants x c d six bits =
-      ap (all_true a) (ap (λ (l : List (List Literal)). each (clauses_at x (table_of m) c) (range 0 m.n) ++ l) (six-last (table_of m) c six m.n x)
-      ∙ append-nil (each (clauses_at x (table_of m) c) (range 0 m.n)))
+      ap (all_true a) (ap (λ (l : List (List Literal)). flat_map (clauses_at x (table_of m) c) (range 0 m.n) ++ l) (six-last (table_of m) c six m.n x)
+      ∙ append-nil (flat_map (clauses_at x (table_of m) c) (range 0 m.n)))
       ∙ every-each (clause_true a) (clauses_at x (table_of m) c) (range 0 m.n)
       ∙ every-range_ext (λ e. all_true a (clauses_at x (table_of m) c e))
       (λ e. clauses_for (λ i. has (set_of d (get_or c.groups i 0)) e) (member_clauses c.code c.count)) 0 m.n
@@ -502,7 +503,7 @@ module _ (m : Model) (a : List Bool) where
       pub clauses-say : all_true a (constraint_clauses m.n (table_of m) x c) ≡ (eqb W (one_of F G) && not (eqb W 0))
       unfolding constraint_clauses
       clauses-say =
-          every_append (clause_true a) (each (clauses_at x (table_of m) c) (range 0 m.n)) (last_clause m.n x (table_of m) c)
+          every_append (clause_true a) (flat_map (clauses_at x (table_of m) c) (range 0 m.n)) (last_clause m.n x (table_of m) c)
           ∙ ap₂ ◌&&◌
           (every-each (clause_true a) (clauses_at x (table_of m) c) (range 0 m.n)
           ∙ every-range_ext (λ e. all_true a (clauses_at x (table_of m) c e)) (λ e. beq (has W e) (has (one_of F G) e)) 0 m.n (λ e _ h. at-entrant e (omega arith))
@@ -610,8 +611,8 @@ module _ (m : Model) (a : List Bool) where
   constraints-iff : All (SettledAmong m.n) (table_of m) → (cs : List Constraint) (x : ℕ)
       → All (λ c. T (constraint_in_range m.s c) × T (leb limits.members (length c.groups))) cs
       → T (all_true a (over_constraints (table_of m) (constraint_clauses m.n (table_of m)) cs x))
-      ↔ ((values_from a x (total (difference_count (table_of m)) cs) ≡ each (difference_values m.n (table_of m) (groups_by m a)) cs)
-      × T (every (constraint_true (groups_by m a)) cs))
+      ↔ ((values_from a x (total (difference_count (table_of m)) cs) ≡ flat_map (difference_values m.n (table_of m) (groups_by m a)) cs)
+      × T (list_all (constraint_true (groups_by m a)) cs))
   constraints-iff s [] x h = (λ t. (refl, tt), λ t. tt)
   constraints-iff s (c ∷ cs) x h =
       let t = table_of m in
@@ -620,9 +621,9 @@ module _ (m : Model) (a : List Bool) where
       let one = constraint-iff s x c h.0.0 (leb→le limits.members (length c.groups) h.0.1) in
       let rest = constraints-iff s cs (x + k) h.1 in
       let p = all_true-append a (constraint_clauses m.n t x c) (over_constraints t (constraint_clauses m.n t) cs (x + k)) in
-      let w = T_and (constraint_true d c) (every (constraint_true d) cs) in
+      let w = T_and (constraint_true d c) (list_all (constraint_true d) cs) in
       let z =
-      append-iff (values_from a x k) (values_from a (x + k) (total (difference_count t) cs)) (difference_values m.n t d c) (each (difference_values m.n t d) cs)
+      append-iff (values_from a x k) (values_from a (x + k) (total (difference_count t) cs)) (difference_values m.n t d c) (flat_map (difference_values m.n t d) cs)
       (values_length (truth a) x k ∙ sym (differences-length m.n t s d c)) in
       let ours : values_from a x (k + total (difference_count t) cs) ≡ values_from a x k ++ values_from a (x + k) (total (difference_count t) cs) =
       values-append (truth a) x k (total (difference_count t) cs) in (
@@ -654,9 +655,9 @@ unfolding assignment_for is_solution variable_count table_variables
 filled-length m q d hd =
     let t = table_of m in
     let settled = table-settled m q in
-    let hp = and_left (pairwise allowed t d) (every (constraint_true d) (constraints_of m)) hd in
+    let hp = and_left (pairwise allowed t d) (list_all (constraint_true d) (constraints_of m)) hd in
     let os = each_pair (output_values m.n) t d in
-    let xs = each (difference_values m.n t d) (constraints_of m) in
+    let xs = flat_map (difference_values m.n t d) (constraints_of m) in
     length-append (variables_by m.n t d) (os ++ xs)
     ∙ omega (
       arith,
@@ -684,14 +685,14 @@ module _ (m : Model) (q : Settled m) (wide : T (members_sized m)) where
       (λ e l. member-true a t (1 + k) e))
       ∙ numbered (word_from m.n a) t
 
-  clauses-are : (a : List Bool) → T (all_true a (each (group_clauses (table_of m)) (range 1 m.s))) ↔ T (every (all_true a) (over_groups clauses_from (table_of m) 1 (1 + opens)))
+  clauses-are : (a : List Bool) → T (all_true a (flat_map (group_clauses (table_of m)) (range 1 m.s))) ↔ T (list_all (all_true a) (over_groups clauses_from (table_of m) 1 (1 + opens)))
   unfolding group_clauses clauses_from opens
   clauses-are a =
-      let e : all_true a (each (group_clauses (table_of m)) (range 1 m.s)) ≡ every (all_true a) (over_groups clauses_from (table_of m) 1 (1 + opens)) =
+      let e : all_true a (flat_map (group_clauses (table_of m)) (range 1 m.s)) ≡ list_all (all_true a) (over_groups clauses_from (table_of m) 1 (1 + opens)) =
       every-each (clause_true a) (group_clauses (table_of m)) (range 1 m.s)
       ∙ sym (every_map (all_true a) (group_clauses (table_of m)) (range 1 m.s))
-      ∙ ap (λ (k : ℕ). every (all_true a) (map (group_clauses (table_of m)) (range 1 k))) (sym (table-length m q.sized))
-      ∙ ap (every (all_true a)) (numbered clauses_from (table_of m)) in
+      ∙ ap (λ (k : ℕ). list_all (all_true a) (map (group_clauses (table_of m)) (range 1 k))) (sym (table-length m q.sized))
+      ∙ ap (list_all (all_true a)) (numbered clauses_from (table_of m)) in
       (λ h. subst T e h, λ h. subst T (sym e) h)
 
   constraints-good : All (λ c. T (constraint_in_range m.s c) × T (leb limits.members (length c.groups))) (constraints_of m)
@@ -702,7 +703,7 @@ module _ (m : Model) (q : Settled m) (wide : T (members_sized m)) where
 
   -- the values after the open marks: those of the outputs and of the X
   extras : List ℕ → List Bool → List Bool
-  extras d xs = fill_all (table_of m) xs ++ each (difference_values m.n (table_of m) d) (constraints_of m)
+  extras d xs = fill_all (table_of m) xs ++ flat_map (difference_values m.n (table_of m) d) (constraints_of m)
 
   outs : ℕ
   outs = total outputs_of (table_of m)
@@ -731,9 +732,9 @@ module _ (m : Model) (q : Settled m) (wide : T (members_sized m)) where
   unfolding satisfying is_solution opens extras outs exes
   main-iff a h =
       let t = table_of m in
-      let gs = each (group_clauses t) (range 1 m.s) in
+      let gs = flat_map (group_clauses t) (range 1 m.s) in
       let cs = over_constraints t (constraint_clauses m.n t) (constraints_of m) (1 + table_variables t) in
-      let xs = each (difference_values m.n t (groups_by m a)) (constraints_of m) in
+      let xs = flat_map (difference_values m.n t (groups_by m a)) (constraints_of m) in
       let w = all_true-append a gs cs in
       let e : all_true a (clauses m) ≡ all_true a (gs ++ cs) = ap (all_true a) (clauses-parts m q) in
       let g = groups-iff m.n a t 1 (1 + opens) settled in
@@ -744,7 +745,7 @@ module _ (m : Model) (q : Settled m) (wide : T (members_sized m)) where
       append-iff (values_from a (1 + opens) outs) (values_from a (1 + table_variables t) exes) (fill_all t (take opens a)) xs
       (values_length (truth a) (1 + opens) outs ∙ sym (length-fill_all t (take opens a))) in
       let d : pairwise allowed t (groups_by m a) ≡ pairwise allowed t (over_groups (word_from m.n a) t 1 (1 + opens)) = ap (pairwise allowed t) (sets-are a) in
-      let b = T_and (pairwise allowed t (groups_by m a)) (every (constraint_true (groups_by m a)) (constraints_of m)) in (
+      let b = T_and (pairwise allowed t (groups_by m a)) (list_all (constraint_true (groups_by m a)) (constraints_of m)) in (
         λ s. let c = w.0 (subst T e s) in
             let u = g.0 ((clauses-are a).0 c.0) in
             let v = k.0 c.1 in
@@ -769,11 +770,11 @@ module _ (m : Model) (q : Settled m) (wide : T (members_sized m)) where
 
     hp : T (pairwise allowed (table_of m) d)
     unfolding is_solution
-    hp = and_left (pairwise allowed (table_of m) d) (every (constraint_true d) (constraints_of m)) hd
+    hp = and_left (pairwise allowed (table_of m) d) (list_all (constraint_true d) (constraints_of m)) hd
 
     whole_is : assignment_for m d ≡ xs ++ extras d xs
     unfolding xs assignment_for extras
-    whole_is = ap (λ (l : List Bool). xs ++ (l ++ each (difference_values m.n (table_of m) d) (constraints_of m))) (sym (outputs_by m.n (table_of m) d settled hp))
+    whole_is = ap (λ (l : List Bool). xs ++ (l ++ flat_map (difference_values m.n (table_of m) d) (constraints_of m))) (sym (outputs_by m.n (table_of m) d settled hp))
 
     hx : length xs ≡ opens
     unfolding opens xs

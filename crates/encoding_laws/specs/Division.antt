@@ -4,7 +4,8 @@ use Rattle.std.specs.Prelude.{ℕ, ◌+◌, ◌-◌, ◌≤◌, ◌≡◌, cond,
 use Rattle.model.specs.declared.Literal.{Literal}
 use Rattle.model.specs.declared.Group.{Group}
 use Rattle.model.specs.declared.Model.{Model}
-use Rattle.model.specs.Lists.{each, total, range}
+use Rattle.std.specs.List.{flat_map}
+use Rattle.model.specs.Lists.{total, range}
 use Rattle.model.specs.Model.{group_at, table_of}
 use Rattle.model.specs.Totalizer.{node_clauses, Shape, shape, root_output, nodes, unit_clauses}
 use Rattle.model.specs.Cnf.{open_count, at_least, at_most, counted, first_variable, first_output, group_blocks, line_clauses}
@@ -23,7 +24,7 @@ first_block t g = 1 + total nodes_of (take (g - 1) t)
 -- ---- a totalizer's clauses as a whole
 
 unfoldable pub tree_clauses : Shape → ℕ → ℕ → List (List Literal)
-tree_clauses s v o = each node_clauses (nodes s v o)
+tree_clauses s v o = flat_map node_clauses (nodes s v o)
 
 -- "After the root's clauses: units"
 unfoldable pub totalizer_clauses : ℕ → ℕ → ℕ → ℕ → ℕ → List (List Literal)
@@ -42,8 +43,8 @@ unfoldable pub clauses_by_group : Model → ℕ → List (List Literal)
 clauses_by_group m b = cond (leb b m.s) (group_clauses (table_of m) b) (line_clauses m (b - m.s))
 
 unfoldable pub listing_by_group : Model → List ℕ
-listing_by_group m = header_text m ++ each (λ b. each clause_text (clauses_by_group m b)) (range 1 (m.s + m.c))
+listing_by_group m = header_text m ++ flat_map (λ b. flat_map clause_text (clauses_by_group m b)) (range 1 (m.s + m.c))
 
 pub record SameListing (m : Model) : Type 0 where
-  pub groups : (g : ℕ) → 1 ≤ g → g ≤ m.s → each (λ b. b) (group_blocks (table_of m) g) ≡ group_clauses (table_of m) g
+  pub groups : (g : ℕ) → 1 ≤ g → g ≤ m.s → flat_map (λ b. b) (group_blocks (table_of m) g) ≡ group_clauses (table_of m) g
   pub bytes : listing m ≡ listing_by_group m

@@ -5,7 +5,8 @@ use Rattle.model.specs.declared.Literal.{Literal}
 use Rattle.model.specs.declared.Node.{Node}
 use Rattle.model.specs.declared.Group.{Group}
 use Rattle.model.specs.declared.Model.{Model}
-use Rattle.model.specs.Lists.{each, range}
+use Rattle.std.specs.List.{flat_map}
+use Rattle.model.specs.Lists.{range}
 use Rattle.model.specs.Model.{group_at, table_of}
 use Rattle.model.specs.Totalizer.{dropped, row_clauses, shape, nodes}
 use Rattle.model.specs.Cnf.{open_count, counted, first_variable, first_output}
@@ -20,7 +21,7 @@ group_nodes t g =
 
 -- those of all groups: block 1 has the first of them, and so on
 unfoldable pub block_nodes : Model → List Node
-block_nodes m = each (group_nodes (table_of m)) (range 1 m.s)
+block_nodes m = flat_map (group_nodes (table_of m)) (range 1 m.s)
 
 -- a node that a tree of size m can have: of any size from 2 to m, its left half "of size m/2 rounded down"
 pub record NodeOf (m : ℕ) (t : Node) : Type 0 where
@@ -37,11 +38,11 @@ pub record Rooted (m : ℕ) (ns : List Node) : Type 0 where
 
 -- the node's clauses before those of p and q
 unfoldable pub earlier : Node → ℕ → ℕ → List (List Literal)
-earlier t p q = each (row_clauses t) (range 0 p) ++ each (dropped t p) (range 0 q)
+earlier t p q = flat_map (row_clauses t) (range 0 p) ++ flat_map (dropped t p) (range 0 q)
 
 -- where the clauses of p and q start in the bytes of the node's block
 unfoldable pub place_of : Node → ℕ → ℕ → ℕ
-place_of t p q = length (each clause_text (earlier t p q))
+place_of t p q = length (flat_map clause_text (earlier t p q))
 
 -- a buffer that holds block b from its start
 pub record BySteps (m : Model) (b : ℕ) (buf : List ℕ) : Type 0 where
@@ -50,4 +51,4 @@ pub record BySteps (m : Model) (b : ℕ) (buf : List ℕ) : Type 0 where
       → Rooted (open_count (group_at (table_of m) g)) (group_nodes (table_of m) g)
   pub written : (before : List Node) (t : Node) (after : List Node) → block_nodes m ≡ before ++ (t ∷ after) → b ≡ suc (length before)
       → (p q : ℕ) → p ≤ t.a → q ≤ t.b
-      → take (length (each clause_text (dropped t p q))) (drop (place_of t p q) buf) ≡ each clause_text (dropped t p q)
+      → take (length (flat_map clause_text (dropped t p q))) (drop (place_of t p q) buf) ≡ flat_map clause_text (dropped t p q)

@@ -10,7 +10,8 @@ use lib.Dec.{T, eqb}
 use lib.ListN.{length, take, length-take, length-map}
 use lib.Seq.{get_or-take, ext_get_or}
 use Rattle.model.specs.declared.Model.{Model}
-use Rattle.model.specs.Lists.{range, every, pairwise, stop}
+use Rattle.std.specs.List.{list_all}
+use Rattle.model.specs.Lists.{range, pairwise, stop}
 use Rattle.model.specs.Limits.{limits}
 use Rattle.model.specs.Model.{table_of, constraints_of, in_range, Whole}
 use Rattle.model.specs.Propagate.{is_fixpoint, unsettled_or}
@@ -45,7 +46,7 @@ module _ (d : List ℕ) where
       size : length (take m.s m.groups) ≡ m.s
       size = length-take m.s m.groups ∙ omega (arith, (in_range_lem m r).group_count, w.groups)
 
-      go : (x : Bool) → pairwise allowed (take m.s m.groups) (take m.s d) ≡ x → x && every (constraint_true (take m.s d)) (constraints_of m) ≡ false
+      go : (x : Bool) → pairwise allowed (take m.s m.groups) (take m.s d) ≡ x → x && list_all (constraint_true (take m.s d)) (constraints_of m) ≡ false
       go false e = refl
       go true e =
           absurd

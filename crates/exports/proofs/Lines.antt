@@ -2,7 +2,7 @@
 use mathlib.Core.Path.{◌≡◌}
 use mathlib.Core.Bool.{Bool, true, false, not}
 use mathlib.Core.List.{List, [], ◌∷◌}
-use mathlib.Core.Option.{Option, none, some}
+use Rattle.std.specs.Prelude.{Option, None, Some}
 use Prim.Native.Nat.{ℕ, ◌-◌, ◌≤◌}
 use native.Mathlib.Omega.{arith}
 use lib.Dec.{ltb, eqb}
@@ -25,8 +25,8 @@ literals-small (l ∷ ls) values =
     (stop-small (is_said (get_or values (variable l - 1) 0)) 12 _ (omega arith) (literals-small ls (with_value l values)))
 
 said-small : (s : Option Said) (values : List ℕ) → said_refusal s values ≤ 25
-said-small none values = omega arith
-said-small (some s) values = literals-small s.literals values
+said-small None values = omega arith
+said-small (Some s) values = literals-small s.literals values
 
 read_small : (r : Reading) (line values : List ℕ) → (line_read r line values).refusal ≤ 25
 unfolding line_read call_refusal

@@ -6,7 +6,7 @@ use Rattle.model.specs.declared.Written.TheVariants.{Refused}
 use Rattle.model.specs.declared.Reading.{Reading}
 use Rattle.model.specs.declared.Closed.{Closed}
 use Rattle.model.specs.declared.Combined.{Combined}
-use Rattle.model.specs.Lists.{each}
+use Rattle.std.specs.List.{flat_map}
 use Rattle.model.specs.Model.{table_of, in_range}
 use Rattle.model.specs.Sheet.{read_sheet}
 use Rattle.model.specs.Propagate.{propagated, refused_propagation}
@@ -38,7 +38,7 @@ settle_number p = numbered p.refusal p.passes
 
 -- the table's words at the front; a refusal leaves the slice
 abbrev pub table_after : Propagated → List ℕ → List ℕ
-table_after p table = cond (eqb p.refusal 0) (each group_words (table_of p.model) ++ drop (4 * p.model.s) table) table
+table_after p table = cond (eqb p.refusal 0) (flat_map group_words (table_of p.model) ++ drop (4 * p.model.s) table) table
 
 -- the sheet's model settled, or the refusal of the reader or of propagation
 unfoldable pub settled_sheet : List ℕ → Propagated

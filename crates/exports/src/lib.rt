@@ -53,8 +53,7 @@ fn settle_number(p: Propagated, table: &mut [u64]) -> u64
         return packing::numbered(p.refusal, p.passes);
     }
     let m = p.model;
-    let groups = m.groups;
-    if !packing::put_groups(groups, m.s as usize, table) {
+    if !packing::put_groups(&m.groups, m.s as usize, table) {
         return packing::numbered(24, 0);
     }
     packing::numbered(p.refusal, p.passes)
@@ -190,7 +189,7 @@ pub extern "C" fn draw_close(sheet: &[u8], closed: u32, values: &[u8], groups: &
     ensures groups_after { groups.new ≡ draw_groups sheet.now closed values.now groups.old }
 {
     let a = closed_sheet(sheet, closed, values);
-    packing::close_number(a, groups)
+    packing::close_number(&a, groups)
 }
 
 #[unsafe(no_mangle)]
@@ -208,7 +207,7 @@ pub extern "C" fn draw_close_model(
         closed: closed != 0,
     };
     let a = solution::close(m, reading, values);
-    packing::close_number(a, groups)
+    packing::close_number(&a, groups)
 }
 
 // From bytes to groups: a sheet and a solver's whole output, read, settled, read back and closed. refusal * 65536 + line of the sheet, or 0 and the groups,
@@ -225,7 +224,7 @@ pub extern "C" fn draw_answer(sheet: &[u8], output: &[u8], groups: &mut [u64]) -
         refusal: a.refusal,
         groups: words,
     };
-    let refusal = packing::close_number(c, groups);
+    let refusal = packing::close_number(&c, groups);
     packing::numbered(refusal, a.line)
 }
 
@@ -325,7 +324,7 @@ pub extern "C" fn draw_combine_model(first: &[u64], second: &[u64], words: &mut 
         return r.refusal;
     }
     let m = r.model;
-    if !packing::put_model(m, words) {
+    if !packing::put_model(&m, words) {
         return 24;
     }
     0

@@ -2,6 +2,7 @@
 use mathlib.Core.Path.{◌≡◌, refl}
 use Rattle.model.specs.Text.{digits, decimal}
 use Rattle.report.specs.Messages.{bytes}
+use Rattle.line_fault.specs.declared.Name.TheVariants as name
 use Rattle.line_fault.specs.declared.Fault.TheVariants.{Tab, Unread, Outside, Count, Marks, Lines, Unended}
 use Rattle.fault_text.specs.Texts.{name_text, shown_byte, tab_text, unread_text, outside_text, count_text, marks_text, due_text, lines_text, unended_text, fault_text}
 
@@ -14,12 +15,12 @@ unread : fault_text (Unread (record { first = 9; last = 12 }) (record { a = 120;
 unfolding unread_text shown_byte decimal digits
 unread = refl
 
-a_high : fault_text (Outside (record { first = 13; last = 16 }) 70 (record { name = 6; low = 0; high = 64 }))
+a_high : fault_text (Outside (record { first = 13; last = 16 }) 70 (record { name = name.High; low = 0; high = 64 }))
     ≡ bytes "columns 13 to 16 have 70: the high of a group must be 0 to 64\n"
 unfolding outside_text name_text decimal digits
 a_high = refl
 
-a_number : fault_text (Outside (record { first = 5; last = 8 }) 3 (record { name = 12; low = 2; high = 2 }))
+a_number : fault_text (Outside (record { first = 5; last = 8 }) 3 (record { name = name.NextGroup; low = 2; high = 2 }))
     ≡ bytes "columns 5 to 8 have 3: the number of this group must be 2\n"
 unfolding outside_text name_text decimal digits
 a_number = refl

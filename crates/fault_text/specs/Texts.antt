@@ -1,35 +1,32 @@
 -- What is wrong with a refused sheet, in words for the counter: a line after the refusal's own.
 use Rattle.std.specs.Prelude.{ℕ, cond, List, [], ◌∷◌, ◌++◌, eqb}
-use Prim.Native.String.{String}
 use Rattle.model.specs.Lists.{between}
 use Rattle.model.specs.Text.{decimal}
-use Rattle.report.specs.Messages.{bytes, text_at}
+use Rattle.report.specs.declared.Message.{Message}
+use Rattle.report.specs.Messages.{bytes, message, added}
 use Rattle.line_fault.specs.declared.Head.{Head}
 use Rattle.line_fault.specs.declared.Columns.{Columns}
 use Rattle.line_fault.specs.declared.Four.{Four}
+use Rattle.line_fault.specs.declared.Name.{Name}
+use Rattle.line_fault.specs.declared.Name.TheVariants as name
 use Rattle.line_fault.specs.declared.Range.{Range}
 use Rattle.line_fault.specs.declared.Fault.{Fault}
 use Rattle.line_fault.specs.declared.Fault.TheVariants.{Nothing, OrderMark, Return, Tab, Width, Unread, Outside, Count, Marks, Lines, Empty, Unended}
 
--- what a number is, by the names of line_fault
-abbrev pub names : List (ℕ × String)
-names =
-    (1, "the number of entrants")
-    ∷ (2, "the number of groups")
-    ∷ (3, "the number of groups, with more than 32 entrants,")
-    ∷ (4, "the number of constraints")
-    ∷ (5, "the low of a group, at most its high,")
-    ∷ (6, "the high of a group")
-    ∷ (7, "a mark")
-    ∷ (8, "a group's number")
-    ∷ (9, "the code")
-    ∷ (10, "the count of code 6")
-    ∷ (11, "the first field of the head")
-    ∷ (12, "the number of this group")
-    ∷ []
-
-unfoldable pub name_text : ℕ → List ℕ
-name_text name = text_at names name
+-- what a number is
+unfoldable pub name_text : Name → List ℕ
+name_text name.Entrants = bytes "the number of entrants"
+name_text name.Groups = bytes "the number of groups"
+name_text name.GroupsOfMany = bytes "the number of groups, with more than 32 entrants,"
+name_text name.Constraints = bytes "the number of constraints"
+name_text name.Low = bytes "the low of a group, at most its high,"
+name_text name.High = bytes "the high of a group"
+name_text name.Mark = bytes "a mark"
+name_text name.Group = bytes "a group's number"
+name_text name.Code = bytes "the code"
+name_text name.Count = bytes "the count of code 6"
+name_text name.Kind = bytes "the first field of the head"
+name_text name.NextGroup = bytes "the number of this group"
 
 -- bytes that do not print are shown as `?`
 unfoldable pub shown_byte : ℕ → ℕ
@@ -93,3 +90,16 @@ fault_text (Marks has n) = marks_text has n
 fault_text (Lines h lines has due) = lines_text h lines has due
 fault_text Empty = bytes "the sheet is empty\n"
 fault_text (Unended line) = unended_text line
+
+-- ---- a message on its way
+
+-- the columns of a field
+unfoldable pub columns_message : Columns → Message
+columns_message at = added (added (added (added (message []) (bytes "columns ")) (decimal at.first)) (bytes " to ")) (decimal at.last)
+
+-- with a range after it; a range of one number is that number
+unfoldable pub added_range : Message → ℕ → ℕ → Message
+added_range m low high =
+    cond (eqb low high)
+    (added (added m (decimal low)) (bytes "\n"))
+    (added (added (added (added m (decimal low)) (bytes " to ")) (decimal high)) (bytes "\n"))

@@ -2,62 +2,86 @@
 #![tactic(auto)]
 
 ghost use Rattle.std.specs.Prelude.{◌≡◌};
-ghost use Rattle.report.specs.Messages.{message, Counted, added};
-ghost use Rattle.fault_text.specs.Texts.{name_text, shown_byte, tab_text, width_text, unread_text, outside_text, count_text, marks_text, due_text, lines_text, unended_text, fault_text};
+ghost use Rattle.report.specs.Messages.{message, Counted};
+ghost use Rattle.fault_text.specs.Texts.{columns_message, added_range, name_text, shown_byte, tab_text, width_text, unread_text, outside_text, count_text, marks_text, due_text, lines_text, unended_text, fault_text};
 
-use line_fault::{Columns, Fault, Four, Head, Range};
+use line_fault::{Columns, Fault, Four, Head, Name, Range};
 use report::Message;
 
 // What a number is.
-fn add_name(m: Message, name: u32) -> Message
-    ensures { result ≡ added m (name_text name) }
+#[tactic(auto, unfolding(crate::specs::Texts::name_text))]
+fn name(name: Name) -> &'static [u8]
+    ensures { result.now ≡ name_text name }
 {
     match name {
-        1 => report::add(m, b"the number of entrants"),
-        2 => report::add(m, b"the number of groups"),
-        3 => report::add(m, b"the number of groups, with more than 32 entrants,"),
-        4 => report::add(m, b"the number of constraints"),
-        5 => report::add(m, b"the low of a group, at most its high,"),
-        6 => report::add(m, b"the high of a group"),
-        7 => report::add(m, b"a mark"),
-        8 => report::add(m, b"a group's number"),
-        9 => report::add(m, b"the code"),
-        10 => report::add(m, b"the count of code 6"),
-        11 => report::add(m, b"the first field of the head"),
-        12 => report::add(m, b"the number of this group"),
-        _ => m,
+        Name::Entrants => b"the number of entrants",
+        Name::Groups => b"the number of groups",
+        Name::GroupsOfMany => b"the number of groups, with more than 32 entrants,",
+        Name::Constraints => b"the number of constraints",
+        Name::Low => b"the low of a group, at most its high,",
+        Name::High => b"the high of a group",
+        Name::Mark => b"a mark",
+        Name::Group => b"a group's number",
+        Name::Code => b"the code",
+        Name::Count => b"the count of code 6",
+        Name::Kind => b"the first field of the head",
+        Name::NextGroup => b"the number of this group",
     }
 }
 
 // A byte that does not print is shown as `?`.
+#[tactic(auto, unfolding(crate::specs::Texts::shown_byte, model::specs::Lists::between))]
 fn shown(b: u8) -> u8
     ensures { result ≡ shown_byte b }
 {
-    if b < 32 {
-        return 63;
+    match b {
+        32..=126 => b,
+        _ => b'?',
     }
-    if 126 < b {
-        return 63;
-    }
-    b
 }
 
 fn tab(column: u32) -> Message
     ensures value { result ≡ message (tab_text column) }
     ensures counted { Counted result }
 {
-    let a = report::add(report::empty(), b"the line has a tab in column ");
-    let b = report::add_number(a, column);
-    report::add(b, b"\n")
+    Message::empty()
+        .add(b"the line has a tab in column ")
+        .add_number(column)
+        .add(b"\n")
 }
 
 fn width(k: u32) -> Message
     ensures value { result ≡ message (width_text k) }
     ensures counted { Counted result }
 {
-    let a = report::add(report::empty(), b"the line has ");
-    let b = report::add_number(a, k);
-    report::add(b, b" columns\n")
+    Message::empty()
+        .add(b"the line has ")
+        .add_number(k)
+        .add(b" columns\n")
+}
+
+// `columns A to B`
+#[tactic(auto, unfolding(crate::specs::Texts::columns_message))]
+fn columns(at: Columns) -> Message
+    ensures { result ≡ columns_message at }
+{
+    Message::empty()
+        .add(b"columns ")
+        .add_number(at.first)
+        .add(b" to ")
+        .add_number(at.last)
+}
+
+// `LOW to HIGH`; a range of one number is that number.
+#[tactic(auto, unfolding(crate::specs::Texts::added_range))]
+fn to_most(m: Message, low: u32, high: u32) -> Message
+    ensures { result ≡ added_range m low high }
+{
+    let m = m.add_number(low);
+    if low == high {
+        return m.add(b"\n");
+    }
+    m.add(b" to ").add_number(high).add(b"\n")
 }
 
 fn unread(at: Columns, four: Four) -> Message
@@ -65,100 +89,81 @@ fn unread(at: Columns, four: Four) -> Message
     ensures counted { Counted result }
 {
     let text = [shown(four.a), shown(four.b), shown(four.c), shown(four.d)];
-    let a = report::add(report::empty(), b"columns ");
-    let b = report::add_number(a, at.first);
-    let c = report::add(b, b" to ");
-    let d = report::add_number(c, at.last);
-    let e = report::add(d, b" have `");
-    let f = report::add(e, &text);
-    report::add(f, b"`\n")
+    columns(at).add(b" have `").add(&text).add(b"`\n")
 }
 
-// A range of one number is that number.
 fn outside(at: Columns, v: u32, range: Range) -> Message
     ensures value { result ≡ message (outside_text at v range) }
     ensures counted { Counted result }
 {
-    let a = report::add(report::empty(), b"columns ");
-    let b = report::add_number(a, at.first);
-    let c = report::add(b, b" to ");
-    let d = report::add_number(c, at.last);
-    let e = report::add(d, b" have ");
-    let f = report::add_number(e, v);
-    let g = report::add(f, b": ");
-    let h = add_name(g, range.name);
-    let i = report::add(h, b" must be ");
-    let j = report::add_number(i, range.low);
-    if range.low == range.high {
-        return report::add(j, b"\n");
-    }
-    let k = report::add(j, b" to ");
-    let l = report::add_number(k, range.high);
-    report::add(l, b"\n")
+    let m = columns(at)
+        .add(b" have ")
+        .add_number(v)
+        .add(b": ")
+        .add(name(range.name))
+        .add(b" must be ");
+    to_most(m, range.low, range.high)
 }
 
 fn count(has: u32, low: u32, high: u32) -> Message
     ensures value { result ≡ message (count_text has low high) }
     ensures counted { Counted result }
 {
-    let a = report::add(report::empty(), b"the line has ");
-    let b = report::add_number(a, has);
-    let c = report::add(b, b" fields: it must have ");
-    let d = report::add_number(c, low);
-    if low == high {
-        return report::add(d, b"\n");
-    }
-    let e = report::add(d, b" to ");
-    let f = report::add_number(e, high);
-    report::add(f, b"\n")
+    let m = Message::empty()
+        .add(b"the line has ")
+        .add_number(has)
+        .add(b" fields: it must have ");
+    to_most(m, low, high)
 }
 
 fn marks(has: u32, n: u32) -> Message
     ensures value { result ≡ message (marks_text has n) }
     ensures counted { Counted result }
 {
-    let a = report::add(report::empty(), b"the line has ");
-    let b = report::add_number(a, has);
-    let c = report::add(b, b" fields: a group has 4, and a mark for each of the ");
-    let d = report::add_number(c, n);
-    report::add(d, b" entrants\n")
+    Message::empty()
+        .add(b"the line has ")
+        .add_number(has)
+        .add(b" fields: a group has 4, and a mark for each of the ")
+        .add_number(n)
+        .add(b" entrants\n")
 }
 
 // The kind of line that is due.
-fn add_due(m: Message, due: u32) -> Message
-    ensures { result ≡ added m (due_text due) }
+#[tactic(auto, unfolding(crate::specs::Texts::due_text))]
+fn due_here(due: u32) -> &'static [u8]
+    ensures { result.now ≡ due_text due }
 {
-    if due == 2 {
-        return report::add(m, b"; a group (2) is due here\n");
+    match due {
+        2 => b"; a group (2) is due here\n",
+        3 => b"; a constraint (3) is due here\n",
+        _ => b"\n",
     }
-    if due == 3 {
-        return report::add(m, b"; a constraint (3) is due here\n");
-    }
-    report::add(m, b"\n")
 }
 
 fn lines(h: Head, lines: u32, has: u32, due: u32) -> Message
     ensures value { result ≡ message (lines_text h lines has due) }
     ensures counted { Counted result }
 {
-    let a = report::add(report::empty(), b"the head says ");
-    let b = report::add_number(a, h.s);
-    let c = report::add(b, b" groups and ");
-    let d = report::add_number(c, h.c);
-    let e = report::add(d, b" constraints, so ");
-    let f = report::add_number(e, lines);
-    let g = report::add(f, b" lines; the sheet has ");
-    let i = report::add_number(g, has);
-    add_due(i, due)
+    Message::empty()
+        .add(b"the head says ")
+        .add_number(h.s)
+        .add(b" groups and ")
+        .add_number(h.c)
+        .add(b" constraints, so ")
+        .add_number(lines)
+        .add(b" lines; the sheet has ")
+        .add_number(has)
+        .add(due_here(due))
 }
 
 fn unended(line: u32) -> Message
     ensures value { result ≡ message (unended_text line) }
     ensures counted { Counted result }
 {
-    let a = report::add(report::empty(), b"the last line, line ");
-    let b = report::add_number(a, line);
-    report::add(b, b", does not end in a newline\n")
+    Message::empty()
+        .add(b"the last line, line ")
+        .add_number(line)
+        .add(b", does not end in a newline\n")
 }
 
 // The words of a fault; none where there is nothing more to say.
@@ -167,12 +172,9 @@ pub fn explain(f: Fault) -> Message
     ensures counted { Counted result }
 {
     match f {
-        Fault::Nothing => report::empty(),
-        Fault::OrderMark => report::add(
-            report::empty(),
-            b"the sheet begins with a byte order mark\n",
-        ),
-        Fault::Return => report::add(report::empty(), b"the line ends in a carriage return\n"),
+        Fault::Nothing => Message::empty(),
+        Fault::OrderMark => Message::empty().add(b"the sheet begins with a byte order mark\n"),
+        Fault::Return => Message::empty().add(b"the line ends in a carriage return\n"),
         Fault::Tab(column) => tab(column),
         Fault::Width(k) => width(k),
         Fault::Unread(at, four) => unread(at, four),
@@ -180,7 +182,7 @@ pub fn explain(f: Fault) -> Message
         Fault::Count(has, low, high) => count(has, low, high),
         Fault::Marks(has, n) => marks(has, n),
         Fault::Lines(h, k, has, due) => lines(h, k, has, due),
-        Fault::Empty => report::add(report::empty(), b"the sheet is empty\n"),
+        Fault::Empty => Message::empty().add(b"the sheet is empty\n"),
         Fault::Unended(line) => unended(line),
     }
 }

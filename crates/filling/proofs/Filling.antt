@@ -8,7 +8,8 @@ use borrow.Author.Tests.{eq-eqb, ne_eqb}
 use lib.Dec.{T, eqb}
 use lib.ListN.{length, take, length-append, drop_of_length-le}
 use Rattle.model.specs.declared.Model.{Model}
-use Rattle.model.specs.Lists.{each, each_pair, stop}
+use Rattle.std.specs.List.{flat_map}
+use Rattle.model.specs.Lists.{each_pair, stop}
 use Rattle.model.specs.Model.{table_of, constraints_of, Whole, in_range}
 use Rattle.model.specs.Propagate.{is_fixpoint, unsettled_or, Settled}
 use Rattle.model.specs.Cnf.{variable_count}
@@ -65,13 +66,13 @@ module _ (m : Model) (s : Whole m) (words values : List ℕ) where
             outputs = values_of (each_pair (output_values m.n) (take m.s m.groups) (take m.s words))
 
             abbrev pub differences : List ℕ
-            differences = values_of (each (difference_values m.n (take m.s m.groups) (take m.s words)) (take m.c m.constraints))
+            differences = values_of (flat_map (difference_values m.n (take m.s m.groups) (take m.s words)) (take m.c m.constraints))
 
             whole_is : values_of (assignment_for m (take m.s words)) ≡ (variables ++ outputs) ++ differences
             unfolding assignment_for table_of constraints_of
             whole_is =
                 let o = each_pair (output_values m.n) (take m.s m.groups) (take m.s words) in
-                let x = each (difference_values m.n (take m.s m.groups) (take m.s words)) (take m.c m.constraints) in
+                let x = flat_map (difference_values m.n (take m.s m.groups) (take m.s words)) (take m.c m.constraints) in
                 values-append (each_pair (variable_values m.n) (take m.s m.groups) (take m.s words)) (o ++ x)
                 ∙ ap (λ (l : List ℕ). variables ++ l) (values-append o x)
                 ∙ sym (append_assoc variables outputs differences)

@@ -1,25 +1,24 @@
 -- Laws of a constraint's X, told from its first two groups: that they are the X of the constraint among the first groups. Assumes nothing.
-use mathlib.Core.Path.{◌≡◌, refl, sym, ap, ap₂, ◌∙◌}
+use mathlib.Core.Path.{◌≡◌, refl, sym, ap₂, ◌∙◌}
 use mathlib.Core.Bool.{Bool, true, false, cond}
 use mathlib.Core.List.{List, []}
-use Prim.Native.Nat.{ℕ, ◌-◌, ◌≤◌, ◌<◌}
+use Prim.Native.Nat.{ℕ}
 use native.Mathlib.Omega.{arith}
-use borrow.Author.Tests.{eq-eqb, ne_eqb, eqb-true, eqb-false, lt-ltb}
+use borrow.Author.Tests.{eq-eqb, ne_eqb, eqb-true, eqb-false}
 use lib.Bits.{bit_and, bit_or}
-use lib.Dec.{T, eqb, ltb, leb→le}
-use lib.ListN.{length, get_or, take}
+use lib.Dec.{T, eqb}
+use lib.ListN.{get_or, take}
 use Rattle.model.specs.declared.Group.{Group}
 use Rattle.model.specs.declared.Constraint.{Constraint}
-use Rattle.model.specs.Limits.{limits}
 use Rattle.model.specs.Words.{less}
-use Rattle.model.specs.Clauses.{is_difference, member_count}
-use Rattle.model.specs.Model.{zero_group, member_at, constraint_sized, constraint_in_range}
+use Rattle.model.specs.Clauses.{is_difference}
+use Rattle.model.specs.Model.{group_at, member_at, constraint_sized, constraint_in_range}
 use Rattle.model.specs.Difference.{apart}
 use Rattle.model.specs.Cnf.{either_open, differing}
 use Rattle.model.specs.Solution.{set_of}
 use Rattle.model.specs.Fill.{open_values, one_of, difference_values, values_of}
-use Rattle.propagation_laws.proofs.Ranges.{not-seven-entrant, member-group}
-use Rattle.difference.proofs.Groups.{group_in_lem, differing-seven}
+use Rattle.propagation_laws.proofs.Ranges.{not-seven-entrant}
+use Rattle.difference.proofs.Groups.{differing-seven}
 use Rattle.filling.specs.Parts.{pair_values}
 use Rattle.filling.proofs.Draws.{two-own}
 use Rattle.filling.proofs.Values.{differences-none, differences-are}
@@ -38,36 +37,19 @@ module _ (n : ℕ) (f g : Group) (d : List ℕ) (c : Constraint) where
 
 -- ---- as the definition has them
 
-module _ (n s : ℕ) (groups : List Group) (d : List ℕ) (c : Constraint) (few : s ≤ limits.groups) (t : T (constraint_in_range s c)) (sized : T (constraint_sized c)) where
-  -- the group that stands at the index of member i
-  member_is : c.code ≡ 7 → (i a : ℕ) → i < 2 → a ≡ cond (ltb (get_or c.groups i 0 - 1) limits.groups) (get_or c.groups i 0 - 1) 0
-      → get_or groups a zero_group ≡ member_at (take s groups) c i
+module _ (n s : ℕ) (groups : List Group) (d : List ℕ) (c : Constraint) (t : T (constraint_in_range s c)) (sized : T (constraint_sized c)) where
+  pub pair_is : (f g : Group) → f ≡ group_at (take s groups) (get_or c.groups 0 0) → g ≡ group_at (take s groups) (get_or c.groups 1 0)
+      → values_of (pair_values n f g d c) ≡ values_of (difference_values n (take s groups) (take s d) c)
   unfolding member_at
-  member_is seven i a h e =
-      let two : member_count c.code c.count ≡ 2 = unfold member_count in ap (λ (k : ℕ). member_count k c.count) seven in
-      let id = get_or c.groups i 0 in
-      let m = member-group s c t i (omega arith) (leb→le limits.members (length c.groups) sized) in
-      let at : a ≡ id - 1 = e ∙ ap (λ (b : Bool). cond b (id - 1) 0) (lt-ltb (id - 1) limits.groups (omega (arith, m.0, m.1))) in
-      group_in_lem groups s id a at (omega (arith, m.0, m.1))
-
-  pub pair_is : (a b : ℕ) → a ≡ cond (ltb (get_or c.groups 0 0 - 1) limits.groups) (get_or c.groups 0 0 - 1) 0
-      → b ≡ cond (ltb (get_or c.groups 1 0 - 1) limits.groups) (get_or c.groups 1 0 - 1) 0
-      → values_of (pair_values n (get_or groups a zero_group) (get_or groups b zero_group) d c) ≡ values_of (difference_values n (take s groups) (take s d) c)
-  pair_is a b p q = go (eqb c.code 7) refl
+  pair_is f g p q = go (eqb c.code 7) refl
     where
-      go : (x : Bool) → eqb c.code 7 ≡ x
-          → values_of (pair_values n (get_or groups a zero_group) (get_or groups b zero_group) d c) ≡ values_of (difference_values n (take s groups) (take s d) c)
+      go : (x : Bool) → eqb c.code 7 ≡ x → values_of (pair_values n f g d c) ≡ values_of (difference_values n (take s groups) (take s d) c)
       go true e =
           let seven = eqb-true c.code 7 e in
-          let f = get_or groups a zero_group in
-          let g = get_or groups b zero_group in
           let o = cond (eqb (apart f g) 0) (either_open f g) 0 in
-          let both : o ≡ differing (take s groups) c =
-          ap₂ (λ (x y : Group). cond (eqb (apart x y) 0) (either_open x y) 0) (member_is seven 0 a (omega arith) p) (member_is seven 1 b (omega arith) q)
-          ∙ differing-seven (take s groups) c seven in
+          let both : o ≡ differing (take s groups) c = ap₂ (λ (x y : Group). cond (eqb (apart x y) 0) (either_open x y) 0) p q ∙ differing-seven (take s groups) c seven in
           sym (pair-are n f g d c seven o _ _ refl refl refl)
           ∙ differences-are n (take s groups) (take s d) c o _ _ both (two-own s d c t sized seven 0 (omega arith)) (two-own s d c t sized seven 1 (omega arith))
       go false e =
           let other = eqb-false c.code 7 e in
-          pair-none n (get_or groups a zero_group) (get_or groups b zero_group) d c other
-          ∙ sym (differences-none n (take s groups) (take s d) c (not-seven-entrant s c t other))
+          pair-none n f g d c other ∙ sym (differences-none n (take s groups) (take s d) c (not-seven-entrant s c t other))

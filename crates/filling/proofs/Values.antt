@@ -13,7 +13,10 @@ use lib.ListN.{length, get_or, take, drop, length-append, length-map, length-tak
 use lib.Seq.{take-suc}
 use Rattle.model.specs.declared.Group.{Group}
 use Rattle.model.specs.declared.Constraint.{Constraint}
-use Rattle.model.specs.Lists.{those, each, each_pair, range}
+use Rattle.std.specs.Prelude.{◌==◌, count_by}
+use Rattle.std.specs.List.{flat_map}
+use Rattle.std.proofs.lemmas.List.Recursion.{is_count_by}
+use Rattle.model.specs.Lists.{those, each_pair, range}
 use Rattle.model.specs.Words.{less, bit, has}
 use Rattle.model.specs.Model.{zero_group}
 use Rattle.model.specs.Totalizer.{Shape, shape}
@@ -34,13 +37,13 @@ use Rattle.filling.specs.Parts.{entrant_value, tree_of}
 
 -- ---- values of a list
 
-values-each : {A : Type 0} (f : A → List Bool) (xs : List A) → values_of (each f xs) ≡ each (λ x. values_of (f x)) xs
+values-each : {A : Type 0} (f : A → List Bool) (xs : List A) → values_of (flat_map f xs) ≡ flat_map (λ x. values_of (f x)) xs
 values-each f [] = unfold values_of in refl
-values-each f (x ∷ xs) = values-append (f x) (each f xs) ∙ ap (λ (l : List ℕ). values_of (f x) ++ l) (values-each f xs)
+values-each f (x ∷ xs) = values-append (f x) (flat_map f xs) ∙ ap (λ (l : List ℕ). values_of (f x) ++ l) (values-each f xs)
 
 -- ---- the variables of a group, and the outputs of a node
 
-pub open_are : (n o w : ℕ) → values_of (open_values n o w) ≡ each (entrant_value o w) (range 0 n)
+pub open_are : (n o w : ℕ) → values_of (open_values n o w) ≡ flat_map (entrant_value o w) (range 0 n)
 unfolding entrant_value
 open_are n o w =
     ap values_of (open_each n o w)
@@ -51,7 +54,7 @@ open_are n o w =
     one true b = unfold values_of in refl
     one false b = unfold values_of in refl
 
-    same : (es : List ℕ) → each (λ e. values_of (cond (has o e) (has w e ∷ []) [])) es ≡ each (λ e. cond (has o e) (value_of (has w e) ∷ []) []) es
+    same : (es : List ℕ) → flat_map (λ e. values_of (cond (has o e) (has w e ∷ []) [])) es ≡ flat_map (λ e. cond (has o e) (value_of (has w e) ∷ []) []) es
     same [] = refl
     same (e ∷ es) = ap₂ (λ (a b : List ℕ). a ++ b) (one (has o e) (has w e)) (same es)
 
@@ -68,31 +71,23 @@ module _ (o w e : ℕ) where
 abbrev pub output_value : ℕ → ℕ → List ℕ
 output_value x i = value_of (ltb i x) ∷ []
 
-pub outputs_are : (m x : ℕ) → values_of (unary m x) ≡ each (output_value x) (range 0 m)
+pub outputs_are : (m x : ℕ) → values_of (unary m x) ≡ flat_map (output_value x) (range 0 m)
 unfolding values_of
 outputs_are m x = go (range 0 m)
   where
-    go : (is : List ℕ) → map value_of (map (λ i. ltb i x) is) ≡ each (output_value x) is
+    go : (is : List ℕ) → map value_of (map (λ i. ltb i x) is) ≡ flat_map (output_value x) is
     go [] = refl
     go (i ∷ is) = ap (λ (l : List ℕ). value_of (ltb i x) ∷ l) (go is)
 
 -- ---- how many are true
 
-pub count_next : (xs : List ℕ) (i : ℕ) → i < length xs
-    → count (assignment_of (take (suc i) xs)) ≡ count (assignment_of (take i xs)) + cond (eqb (get_or xs i 0) 1) 1 0
+pub count-is : (xs : List ℕ) → count_by (λ b. b == 1) xs ≡ count (assignment_of xs)
 unfolding assignment_of
-count_next [] i h = absurd (omega arith)
-count_next (y ∷ xs) zero h = one (eqb y 1)
+count-is xs = sym (is_count_by (λ xs. count (map (λ b. eqb b 1) xs)) (λ b. b == 1) refl (λ x xs. next (eqb x 1) (map (λ b. eqb b 1) xs)) xs)
   where
-    one : (b : Bool) → count (b ∷ []) ≡ 0 + cond b 1 0
-    one true = refl
-    one false = refl
-count_next (y ∷ xs) (suc i) h = one (eqb y 1) (count_next xs i (omega arith))
-  where
-    one : (b : Bool) → count (assignment_of (take (suc i) xs)) ≡ count (assignment_of (take i xs)) + cond (eqb (get_or xs i 0) 1) 1 0
-        → count (b ∷ assignment_of (take (suc i) xs)) ≡ count (b ∷ assignment_of (take i xs)) + cond (eqb (get_or xs i 0) 1) 1 0
-    one true ih = omega (arith, ih)
-    one false ih = ih
+    next : (b : Bool) (xs : List Bool) → count (b ∷ xs) ≡ cond b (1 + count xs) (count xs)
+    next true xs = omega arith
+    next false xs = refl
 
 -- ---- a tree
 
@@ -248,13 +243,13 @@ module _ (n : ℕ) (t : List Group) (d : List ℕ) (c : Constraint) where
 module _ (f : Constraint → List Bool) (cs : List Constraint) where
   -- the values of the first j constraints
   abbrev pub first_constraints : ℕ → List ℕ
-  first_constraints j = values_of (each f (take j cs))
+  first_constraints j = values_of (flat_map f (take j cs))
 
   pub constraints-next : (j : ℕ) (d : Constraint) → j < length cs → first_constraints (j + 1) ≡ first_constraints j ++ values_of (f (get_or cs j d))
   constraints-next j d h =
-      ap (λ l. values_of (each f l)) (ap (λ (i : ℕ). take i cs) (add-one j) ∙ take-suc cs j d h)
-      ∙ ap values_of (each_append f (take j cs) (get_or cs j d ∷ []) ∙ ap (λ (l : List Bool). each f (take j cs) ++ l) (append-nil (f (get_or cs j d))))
-      ∙ values-append (each f (take j cs)) (f (get_or cs j d))
+      ap (λ l. values_of (flat_map f l)) (ap (λ (i : ℕ). take i cs) (add-one j) ∙ take-suc cs j d h)
+      ∙ ap values_of (each_append f (take j cs) (get_or cs j d ∷ []) ∙ ap (λ (l : List Bool). flat_map f (take j cs) ++ l) (append-nil (f (get_or cs j d))))
+      ∙ values-append (flat_map f (take j cs)) (f (get_or cs j d))
 
   pub constraints-room : (j c : ℕ) (d : Constraint) → j < c → c ≤ length cs → length (first_constraints j) + length (values_of (f (get_or cs j d))) ≤ length (first_constraints c)
   constraints-room j c d h p =

@@ -1,14 +1,19 @@
 -- What the parts of filling write and ask.
-use Rattle.std.specs.Prelude.{ℕ, Bool, cond, List, [], ◌∷◌, eqb, length}
+use Rattle.std.specs.Prelude.{ℕ, Bool, cond, List, [], ◌∷◌, map, eqb, length, take}
 use Rattle.model.specs.declared.Group.{Group}
 use Rattle.model.specs.declared.Constraint.{Constraint}
 use Rattle.model.specs.Words.{has}
-use Rattle.model.specs.Clauses.{is_difference}
+use Rattle.model.specs.Clauses.{member_count, is_difference}
 use Rattle.model.specs.Difference.{apart}
 use Rattle.model.specs.Totalizer.{shape}
 use Rattle.model.specs.Cnf.{either_open}
+use Rattle.model.specs.Solution.{meaning, set_of}
 use Rattle.model.specs.Close.{assignment_of}
 use Rattle.model.specs.Fill.{open_values, tree_values, one_of, member_set, value_of, values_of}
+
+-- whether the sets of a constraint's groups are as its code says, where the words are d
+abbrev pub sets_true : List ℕ → Constraint → Bool
+sets_true d c = meaning c.code (map (set_of d) (take (member_count c.code c.count) c.groups))
 
 -- the value of entrant e, where it is in o: whether w has it
 unfoldable pub entrant_value : ℕ → ℕ → ℕ → List ℕ

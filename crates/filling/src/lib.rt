@@ -2,24 +2,24 @@
 // A draw is judged on sets, and values are written in their order, the variables', the outputs', then the X of code 7.
 #![tactic(auto)]
 
-ghost use Rattle.std.specs.Prelude.{◌≡◌, ◌+◌, ◌≤◌, ◌<◌, T, length, take};
-ghost use Rattle.model.specs.Lists.{every, each, pairwise, each_pair};
+ghost use Rattle.std.specs.Prelude.{◌≡◌, ◌==◌, ◌+◌, ◌≤◌, ◌<◌, T, length, take, count_by};
+ghost use Rattle.std.specs.List.{list_all, flat_map, zip};
+ghost use Rattle.model.specs.Lists.{each_pair};
 ghost use Rattle.model.specs.Limits.{limits};
 ghost use Rattle.model.specs.Model.{constraint_sized, constraint_in_range, in_range};
-ghost use Rattle.model.specs.Solution.{allowed, constraint_true, is_solution};
-ghost use Rattle.model.specs.Close.{assignment_of};
-ghost use Rattle.model.specs.Fill.{count, unary, open_values, variable_values, output_values, difference_values, value_of, values_of, fill_refusal, filled_values};
+ghost use Rattle.model.specs.Solution.{allowed, is_solution};
+ghost use Rattle.model.specs.Fill.{unary, open_values, variable_values, output_values, difference_values, value_of, values_of, fill_refusal, filled_values};
 ghost use Rattle.text.specs.Put.{Wrote};
 ghost use Rattle.correctness.specs.Filling.{RoundTrips};
-ghost use Rattle.filling.specs.Parts.{entrant_value, tree_of, pair_values};
+ghost use Rattle.filling.specs.Parts.{sets_true, entrant_value, tree_of, pair_values};
 
 use model::{Constraint, Group, Model};
 
 // ---- whether the words are a draw
 
 // Whether a group may have the entrants w.
-fn allowed(g: Group, w: u64) -> bool
-    ensures { result ≡ allowed g w }
+fn allowed(g: &Group, w: u64) -> bool
+    ensures { result ≡ allowed g.now w }
 {
     if g.fixed & w != g.fixed {
         return false;
@@ -27,7 +27,7 @@ fn allowed(g: Group, w: u64) -> bool
     if w & g.possible != w {
         return false;
     }
-    let k = u64::count_ones(w);
+    let k = w.count_ones();
     if k < g.low {
         return false;
     }
@@ -35,63 +35,39 @@ fn allowed(g: Group, w: u64) -> bool
 }
 
 // Groups 1 to s.
-fn groups_allowed(groups: [Group; Model::GROUPS], words: &[u64; Model::GROUPS], s: usize) -> bool
-    requires { (s ≤ limits.groups) × (length words.now ≡ limits.groups) }
-    ensures { result ≡ pairwise allowed (take s groups) (take s words.now) }
+fn groups_allowed(groups: &[Group; Model::GROUPS], words: &[u64; Model::GROUPS], s: usize) -> bool
+    ensures value { result ≡ list_all (λ p. allowed p.0 p.1) (take s (zip groups.now words.now)) }
+    ensures lengths { (length groups.now ≡ limits.groups) × (length words.now ≡ limits.groups) }
 {
-    let mut i: usize = 0;
-    while i < s {
-        let g = groups[i];
-        if !allowed(g, words[i]) {
-            return false;
-        }
-        i += 1;
-    }
-    true
-}
-
-// A constraint.
-fn constraint_true(words: &[u64; Model::GROUPS], l: Constraint, s: u32) -> bool
-    requires { T (constraint_in_range s l) }
-    ensures { result ≡ constraint_true (take s words.now) l }
-{
-    let ids = l.groups;
-    constraint_clauses::sets_hold(words, &ids, l.code, l.count)
+    groups
+        .iter()
+        .zip(words.iter())
+        .take(s)
+        .all(|(g, w)| allowed(g, *w))
 }
 
 // The first c constraints.
 fn constraints_true(
+    constraints: &[Constraint; Model::CONSTRAINTS],
     words: &[u64; Model::GROUPS],
-    constraints: [Constraint; Model::CONSTRAINTS],
     c: usize,
-    s: u32,
 ) -> bool
-    requires c_le_constraints { c ≤ limits.constraints }
-    requires t { T (every (constraint_in_range s) (take c constraints)) }
-    ensures { result ≡ every (constraint_true (take s words.now)) (take c constraints) }
+    ensures { result ≡ list_all (sets_true words.now) (take c constraints.now) }
 {
-    let mut j: usize = 0;
-    while j < c {
-        let l = constraints[j];
-        if !constraint_true(words, l, s) {
-            return false;
-        }
-        j += 1;
-    }
-    true
+    constraints.iter().take(c).all(|l| constraint_clauses::sets_hold(
+        words, &l.groups, l.code, l.count,
+    ))
 }
 
 // Whether the words of groups 1 to s are a draw of the model.
-fn is_draw(m: Model, words: &[u64; Model::GROUPS]) -> bool
-    requires { T (in_range m) × (length words.now ≡ limits.groups) }
-    ensures { result ≡ is_solution m (take m.s words.now) }
+fn is_draw(m: &Model, words: &[u64; Model::GROUPS]) -> bool
+    requires { T (in_range m.now) }
+    ensures { result ≡ is_solution m.now (take m.now.s words.now) }
 {
-    let groups = m.groups;
-    if !groups_allowed(groups, words, m.s as usize) {
+    if !groups_allowed(&m.groups, words, m.s as usize) {
         return false;
     }
-    let constraints = m.constraints;
-    constraints_true(words, constraints, m.c as usize, m.s)
+    constraints_true(&m.constraints, words, m.c as usize)
 }
 
 // ---- the values of a group
@@ -126,37 +102,26 @@ fn put_open(values: &mut [u8], at: usize, free: u64, w: u64, n: u32) -> usize
     ensures { Wrote (values_of (open_values n free w)) at values.old values.new result }
 {
     let mut k = at;
-    let mut e: u32 = 0;
-    while e < n {
-        let j = put_entrant(values, k, free, w, e);
-        k = j;
-        e += 1;
+    for e in 0..n {
+        k = put_entrant(values, k, free, w, e);
     }
     k
 }
 
 // The variables of a group whose entrants are w.
-fn put_variables(values: &mut [u8], at: usize, g: Group, w: u64, n: u32) -> usize
+fn put_variables(values: &mut [u8], at: usize, g: &Group, w: u64, n: u32) -> usize
     requires n_le_entrants { n ≤ limits.entrants }
-    requires w_in_bounds { at + length (values_of (variable_values n g w)) ≤ length values.old }
-    ensures { Wrote (values_of (variable_values n g w)) at values.old values.new result }
+    requires w_in_bounds { at + length (values_of (variable_values n g.now w)) ≤ length values.old }
+    ensures { Wrote (values_of (variable_values n g.now w)) at values.old values.new result }
 {
-    put_open(values, at, g.possible ^ (g.possible & g.fixed), w, n)
+    put_open(values, at, model::without(g.possible, g.fixed), w, n)
 }
 
 // How many values are true.
 fn true_count(values: &[u8]) -> usize
-    ensures { result ≡ count (assignment_of values.now) }
+    ensures { result ≡ count_by (λ b. b == 1) values.now }
 {
-    let mut x: usize = 0;
-    let mut i: usize = 0;
-    while i < values.len() {
-        if values[i] == 1 {
-            x += 1;
-        }
-        i += 1;
-    }
-    x
+    values.iter().filter(|b| **b == 1).count()
 }
 
 // The outputs of a node of m leaves of which x are true.
@@ -164,69 +129,60 @@ fn put_outputs(values: &mut [u8], at: usize, m: usize, x: usize) -> usize
     requires { at + length (values_of (unary m x)) ≤ length values.old }
     ensures { Wrote (values_of (unary m x)) at values.old values.new result }
 {
-    let mut k = at;
-    let mut i: usize = 0;
-    while i < m {
-        values[k] = value_of(i < x);
-        k += 1;
-        i += 1;
+    for i in 0..m {
+        values[at + i] = value_of(i < x);
     }
-    k
+    at + m
 }
 
-// The outputs of a tree over m leaves: left half, right half, then the node itself. A half of one leaf has none.
-fn put_tree(values: &mut [u8], at: usize, leaves: &[u8], m: usize) -> usize
-    requires m_value { m ≡ length leaves.now }
-    requires leaves_in_bounds { at + length (tree_of leaves.now) ≤ length values.old }
+// The outputs of a tree over leaves: left half, right half, then the node itself. A half of one leaf has none.
+fn put_tree(values: &mut [u8], at: usize, leaves: &[u8]) -> usize
+    requires { at + length (tree_of leaves.now) ≤ length values.old }
     ensures { Wrote (tree_of leaves.now) at values.old values.new result }
 {
+    let m = leaves.len();
     if m < 2 {
         return at;
     }
     if m == 2 {
         return put_outputs(values, at, 2, true_count(leaves));
     }
-    let a = m / 2;
-    let x = put_tree(values, at, &leaves[..a], a);
-    let y = put_tree(values, x, &leaves[a..], m - a);
+    let x = put_tree(values, at, &leaves[..m / 2]);
+    let y = put_tree(values, x, &leaves[m / 2..]);
     put_outputs(values, y, m, true_count(leaves))
 }
 
 // The outputs of a group's totalizer, where it has one.
-fn put_totalizer(values: &mut [u8], at: usize, g: Group, w: u64, n: u32) -> usize
+fn put_totalizer(values: &mut [u8], at: usize, g: &Group, w: u64, n: u32) -> usize
     requires n_le_entrants { n ≤ limits.entrants }
-    requires w_in_bounds { at + length (values_of (output_values n g w)) ≤ length values.old }
-    ensures { Wrote (values_of (output_values n g w)) at values.old values.new result }
+    requires w_in_bounds { at + length (values_of (output_values n g.now w)) ≤ length values.old }
+    ensures { Wrote (values_of (output_values n g.now w)) at values.old values.new result }
 {
-    let t = numbering::totalizer_of(g);
+    let t = numbering::totalizer_of(*g);
     if !t.exists {
         return at;
     }
     let mut leaves = [0u8; Model::WORD as usize];
     let m = put_variables(&mut leaves, 0, g, w, n);
-    put_tree(values, at, &leaves[..m], m)
+    put_tree(values, at, &leaves[..m])
 }
 
 // ---- of all groups
 
 fn put_all_variables(
     values: &mut [u8],
-    groups: [Group; Model::GROUPS],
+    groups: &[Group; Model::GROUPS],
     words: &[u64; Model::GROUPS],
     n: u32,
     s: usize,
 ) -> usize
-    requires n_le_entrants { (n ≤ limits.entrants) × (s ≤ limits.groups) × (length words.now ≡ limits.groups) }
-    requires words_in_bounds { length (values_of (each_pair (variable_values n) (take s groups) (take s words.now))) ≤ length values.old }
-    ensures { Wrote (values_of (each_pair (variable_values n) (take s groups) (take s words.now))) 0 values.old values.new result }
+    requires n_le_entrants { (n ≤ limits.entrants) × (s ≤ limits.groups) }
+    requires words_in_bounds { length (values_of (each_pair (variable_values n) (take s groups.now) (take s words.now))) ≤ length values.old }
+    ensures { Wrote (values_of (each_pair (variable_values n) (take s groups.now) (take s words.now))) 0 values.old values.new result }
 {
-    let mut k: usize = 0;
-    let mut i: usize = 0;
-    while i < s {
-        let g = groups[i];
-        let j = put_variables(values, k, g, words[i], n);
-        k = j;
-        i += 1;
+    let mut k = 0;
+    for i in 0..s {
+        k = put_variables(values, k, &groups[i], words[i], n);
     }
     k
 }
@@ -234,22 +190,18 @@ fn put_all_variables(
 fn put_all_totalizers(
     values: &mut [u8],
     at: usize,
-    groups: [Group; Model::GROUPS],
+    groups: &[Group; Model::GROUPS],
     words: &[u64; Model::GROUPS],
     n: u32,
     s: usize,
 ) -> usize
-    requires n_le_entrants { (n ≤ limits.entrants) × (s ≤ limits.groups) × (length words.now ≡ limits.groups) }
-    requires words_in_bounds { at + length (values_of (each_pair (output_values n) (take s groups) (take s words.now))) ≤ length values.old }
-    ensures { Wrote (values_of (each_pair (output_values n) (take s groups) (take s words.now))) at values.old values.new result }
+    requires n_le_entrants { (n ≤ limits.entrants) × (s ≤ limits.groups) }
+    requires words_in_bounds { at + length (values_of (each_pair (output_values n) (take s groups.now) (take s words.now))) ≤ length values.old }
+    ensures { Wrote (values_of (each_pair (output_values n) (take s groups.now) (take s words.now))) at values.old values.new result }
 {
     let mut k = at;
-    let mut i: usize = 0;
-    while i < s {
-        let g = groups[i];
-        let j = put_totalizer(values, k, g, words[i], n);
-        k = j;
-        i += 1;
+    for i in 0..s {
+        k = put_totalizer(values, k, &groups[i], words[i], n);
     }
     k
 }
@@ -263,60 +215,48 @@ fn put_differences(
     f: Group,
     g: Group,
     words: &[u64; Model::GROUPS],
-    c: Constraint,
+    c: &Constraint,
     n: u32,
 ) -> usize
-    requires n_le_entrants { (n ≤ limits.entrants) × T (constraint_sized c) }
-    requires c_in_bounds { at + length (values_of (pair_values n f g words.now c)) ≤ length values.old }
-    ensures { Wrote (values_of (pair_values n f g words.now c)) at values.old values.new result }
+    requires n_le_entrants { n ≤ limits.entrants }
+    requires c_in_bounds { at + length (values_of (pair_values n f g words.now c.now)) ≤ length values.old }
+    ensures { Wrote (values_of (pair_values n f g words.now c.now)) at values.old values.new result }
 {
     if c.code != 7 {
         return at;
     }
-    let ids = c.groups;
     let free = difference::either_open(f, g);
-    let v = constraint_clauses::set_of(words, ids[0]);
-    let w = constraint_clauses::set_of(words, ids[1]);
+    let v = constraint_clauses::set_of(words, c.groups[0]);
+    let w = constraint_clauses::set_of(words, c.groups[1]);
     let either = v | w;
     let both = v & w;
-    put_open(values, at, free, either ^ (either & both), n)
+    put_open(values, at, free, model::without(either, both), n)
 }
 
 fn put_all_differences(
     values: &mut [u8],
     at: usize,
-    groups: [Group; Model::GROUPS],
+    groups: &[Group; Model::GROUPS],
     words: &[u64; Model::GROUPS],
     s: usize,
-    constraints: [Constraint; Model::CONSTRAINTS],
+    constraints: &[Constraint; Model::CONSTRAINTS],
     c: usize,
     n: u32,
 ) -> usize
     requires n_le_entrants { (n ≤ limits.entrants) × (c ≤ limits.constraints) × (s ≤ limits.groups) }
-    requires t { T (every (constraint_in_range s) (take c constraints)) × T (every constraint_sized constraints) }
-    requires constraints_in_bounds { at + length (values_of (each (difference_values n (take s groups) (take s words.now)) (take c constraints))) ≤ length values.old }
-    ensures { Wrote (values_of (each (difference_values n (take s groups) (take s words.now)) (take c constraints))) at values.old values.new result }
+    requires t { T (list_all (constraint_in_range s) (take c constraints.now)) × T (list_all constraint_sized constraints.now) }
+    requires constraints_in_bounds { at + length (values_of (flat_map (difference_values n (take s groups.now) (take s words.now)) (take c constraints.now))) ≤ length values.old }
+    ensures { Wrote (values_of (flat_map (difference_values n (take s groups.now) (take s words.now)) (take c constraints.now))) at values.old values.new result }
 {
     let mut k = at;
-    let mut j: usize = 0;
-    while j < c {
+    for j in 0..c {
         let l = constraints[j];
-        let ids = l.groups;
-        let a = difference::slot(ids[0]);
-        let f = groups[a];
-        let b = difference::slot(ids[1]);
-        let g = groups[b];
-        let i = put_differences(values, k, f, g, words, l, n);
-        k = i;
-        j += 1;
+        let f = difference::group_at(groups, s, l.groups[0]);
+        let g = difference::group_at(groups, s, l.groups[1]);
+        k = put_differences(values, k, f, g, words, &l, n);
     }
     k
 }
-
-// What owning an array tells of its length.
-fn sized(words: [u64; Model::GROUPS])
-    ensures { length words ≡ limits.groups }
-{}
 
 // The values of the one satisfying assignment that reads back as the words of groups 1 to s; or refusal 20, 22, 30 or 26, and then no value changes.
 // With closing it goes there and back: `RoundTrips`.
@@ -328,28 +268,27 @@ pub fn fill(m: Model, words: &[u64; Model::GROUPS], values: &mut [u8]) -> u32
     let groups = m.groups;
     let constraints = m.constraints;
     model::whole(groups, constraints);
-    let all = *words;
-    sized(all);
     let refusal = propagate::unsettled(m);
     if refusal != 0 {
         return refusal;
     }
-    if !is_draw(m, words) {
+    if !is_draw(&m, words) {
         return 30;
     }
     let v = numbering::of_model(m);
     if values.len() != v.variables as usize {
         return 26;
     }
-    let k = put_all_variables(values, groups, words, m.n, m.s as usize);
-    let j = put_all_totalizers(values, k, groups, words, m.n, m.s as usize);
+    let s = m.s as usize;
+    let k = put_all_variables(values, &m.groups, words, m.n, s);
+    let j = put_all_totalizers(values, k, &m.groups, words, m.n, s);
     put_all_differences(
         values,
         j,
-        groups,
+        &m.groups,
         words,
-        m.s as usize,
-        constraints,
+        s,
+        &m.constraints,
         m.c as usize,
         m.n,
     );

@@ -17,9 +17,11 @@ use Rattle.model.proofs.Words.{shifted}
 use Rattle.model.proofs.Loops.{drop-next}
 use Rattle.line_form.specs.Form.{word_length}
 use Rattle.line_form.proofs.Words.{rest-is, k-le}
-use Rattle.group_lines.specs.declared.Line.{Line}
+use Rattle.std.specs.Prelude.{Result, Ok, Err}
+use Rattle.group_lines.specs.declared.Fault.{Fault}
+use Rattle.group_lines.specs.declared.Fault.TheVariants.{BadForm, Outside, EntrantTwice}
 use Rattle.group_lines.specs.Words.{after_space}
-use Rattle.group_lines.specs.Lines.{bad_form, outside, entrant_twice, number_in, wrong, of_entrant, entrants_line}
+use Rattle.group_lines.specs.Lines.{number_in, of_entrant, entrants_line}
 
 -- the first word, and those after it
 pub words-split : (l : List ℕ) → words_of l ≡ take (word_length l) l ∷ after_space (drop (word_length l) l)
@@ -33,17 +35,17 @@ words-split (b ∷ bs) = go (eqb b 32) (words-split bs)
 
 -- ---- an entrant's word
 
-module _ (n group e : ℕ) (others : Line) where
-  of-bad : e ≡ 0 → of_entrant n group e others ≡ wrong bad_form 0
+module _ (n group e : ℕ) (others : Result ℕ Fault) where
+  of-bad : e ≡ 0 → of_entrant n group e others ≡ Err BadForm
   unfolding of_entrant
   of-bad z = rw (eq-eqb e 0 z)
 
   module _ (some : e ≡ 0 → ⊥) where
-    of-outside : n < e → of_entrant n group e others ≡ wrong outside e
+    of-outside : n < e → of_entrant n group e others ≡ Err (Outside e)
     unfolding of_entrant
     of-outside h = rw (ne_eqb e 0 some, lt-ltb n e h)
 
-    of-twice : e ≤ n → has group (e - 1) ≡ true → of_entrant n group e others ≡ wrong entrant_twice e
+    of-twice : e ≤ n → has group (e - 1) ≡ true → of_entrant n group e others ≡ Err (EntrantTwice e)
     unfolding of_entrant
     of-twice h t = rw (ne_eqb e 0 some, le-ltb n e h, t)
 
@@ -83,14 +85,14 @@ module _ {line : List ℕ} {start n group at : ℕ} (h : Halfway line start n gr
       here : entrants_line n 0 (after_space (drop start line)) ≡ of_entrant n group e (entrants_line n (bit_or group (2 ^ (e - 1))) (after_space (drop (at + 1 + k) line)))
       here = h.rest ∙ ap (entrants_line n group) word-here ∙ rw (sym ee)
 
-      pub bad : e ≡ 0 → wrong bad_form 0 ≡ entrants_line n 0 (after_space (drop start line))
+      pub bad : e ≡ 0 → Err BadForm ≡ entrants_line n 0 (after_space (drop start line))
       bad z = sym (here ∙ of-bad n group e _ z)
 
       module _ (some : e ≡ 0 → ⊥) where
-        pub past : n < e → wrong outside e ≡ entrants_line n 0 (after_space (drop start line))
+        pub past : n < e → Err (Outside e) ≡ entrants_line n 0 (after_space (drop start line))
         past o = sym (here ∙ of-outside n group e _ some o)
 
-        pub twice : e ≤ n → group / 2 ^ (e - 1) % 2 ≡ 1 → wrong entrant_twice e ≡ entrants_line n 0 (after_space (drop start line))
+        pub twice : e ≤ n → group / 2 ^ (e - 1) % 2 ≡ 1 → Err (EntrantTwice e) ≡ entrants_line n 0 (after_space (drop start line))
         twice o t = sym (here ∙ of-twice n group e _ some o (is_in group (e - 1) t))
 
         pub next : e ≤ n → (group / 2 ^ (e - 1) % 2 ≡ 1 → ⊥) → n ≤ limits.word → Halfway line start n (bit_or group (1 * 2 ^ (e - 1) % 2 ^ limits.word)) (at + 1 + k)
@@ -99,5 +101,5 @@ module _ {line : List ℕ} {start n group at : ℕ} (h : Halfway line start n gr
           rest = here ∙ of-new n group e _ some o (is-out group (e - 1) f) ∙ rw (shifted (e - 1) (omega arith));
         }
 
-  pub all_read : length line ≤ at → record { fault = 0; number = 0; word = group } ≡ entrants_line n 0 (after_space (drop start line))
+  pub all_read : length line ≤ at → Ok group ≡ entrants_line n 0 (after_space (drop start line))
   all_read last = sym (h.rest ∙ ap (λ (l : List ℕ). entrants_line n group (after_space l)) (drop_of_length-le line last))

@@ -8,33 +8,35 @@ use lib.ListN.{take}
 use Rattle.model.specs.Words.{bit, has}
 use Rattle.model.specs.Sheet.{number_of}
 use Rattle.model.specs.Assignment.{variable_in}
-use Rattle.group_lines.specs.declared.GroupsRead.{GroupsRead}
-use Rattle.group_lines.specs.Lines.{bad_form, no_such_group, group_twice, group_missing, outside, entrant_twice, number_in, group_in, of_group, of_entrant, line_read, groups_read}
+use Rattle.std.specs.Prelude.{Result, Ok, Err}
+use Rattle.group_lines.specs.declared.WrongLine.{WrongLine}
+use Rattle.group_lines.specs.Lines.{fault_number, fault_about, number_in, group_in, of_group, of_entrant, line_read, groups_read}
 
 abbrev bytes : String → List ℕ
 bytes no_text = []
 bytes (c before s) = code c ∷ bytes s
 
-abbrev read : String → GroupsRead
+abbrev read : String → Result (List ℕ) WrongLine
 read s = groups_read (bytes s) 9 2
 
--- what is wrong, its line and number, and the first two groups
-abbrev said : GroupsRead → List ℕ
-said r = r.fault ∷ r.line ∷ r.number ∷ take 2 r.groups
+-- what is wrong, its line, and the group or entrant that it is about; or 0, and the first two groups
+abbrev said : Result (List ℕ) WrongLine → List ℕ
+said (Ok groups) = 0 ∷ take 2 groups
+said (Err w) = fault_number w.fault ∷ w.line ∷ fault_about w.fault ∷ []
 
 -- entrants 3, 7 and 9 are the bits 2, 6 and 8; the last line may lack its newline
 abbrev texts : List (String × List ℕ)
 texts =
-    ("1: 3 7 9\n2:\n", 0 ∷ 0 ∷ 0 ∷ 324 ∷ 0 ∷ [])
-    ∷ ("1: 3 7 9\n2: 1", 0 ∷ 0 ∷ 0 ∷ 324 ∷ 1 ∷ [])
-    ∷ ("1 3\n", bad_form ∷ 1 ∷ 0 ∷ 0 ∷ 0 ∷ [])
-    ∷ ("1: 3\n2:  4\n", bad_form ∷ 2 ∷ 0 ∷ 0 ∷ 0 ∷ [])
-    ∷ ("17: 3\n", no_such_group ∷ 1 ∷ 17 ∷ 0 ∷ 0 ∷ [])
-    ∷ ("1: 3\n1: 4\n", group_twice ∷ 2 ∷ 1 ∷ 0 ∷ 0 ∷ [])
-    ∷ ("2: 3\n", group_missing ∷ 1 ∷ 1 ∷ 0 ∷ 0 ∷ [])
-    ∷ ("1: 3\n", group_missing ∷ 2 ∷ 2 ∷ 0 ∷ 0 ∷ [])
-    ∷ ("1: 3 10 3\n", outside ∷ 1 ∷ 10 ∷ 0 ∷ 0 ∷ [])
-    ∷ ("1: 3\n2: 4 7 4\n", entrant_twice ∷ 2 ∷ 4 ∷ 0 ∷ 0 ∷ [])
+    ("1: 3 7 9\n2:\n", 0 ∷ 324 ∷ 0 ∷ [])
+    ∷ ("1: 3 7 9\n2: 1", 0 ∷ 324 ∷ 1 ∷ [])
+    ∷ ("1 3\n", 1 ∷ 1 ∷ 0 ∷ [])
+    ∷ ("1: 3\n2:  4\n", 1 ∷ 2 ∷ 0 ∷ [])
+    ∷ ("17: 3\n", 2 ∷ 1 ∷ 17 ∷ [])
+    ∷ ("1: 3\n1: 4\n", 3 ∷ 2 ∷ 1 ∷ [])
+    ∷ ("2: 3\n", 4 ∷ 1 ∷ 1 ∷ [])
+    ∷ ("1: 3\n", 4 ∷ 2 ∷ 2 ∷ [])
+    ∷ ("1: 3 10 3\n", 5 ∷ 1 ∷ 10 ∷ [])
+    ∷ ("1: 3\n2: 4 7 4\n", 6 ∷ 2 ∷ 4 ∷ [])
     ∷ []
 
 all-texts : map (λ t. said (read t.0)) texts ≡ map (λ t. t.1) texts

@@ -13,37 +13,39 @@ use Rattle.line_form.specs.Form.{word_length}
 use Rattle.sheet.specs.Line.{line_length}
 use Rattle.sheet.proofs.Laws.{rest}
 use Rattle.sheet.proofs.Reading.{rest-next, line-inside, drop_min}
-use Rattle.group_lines.specs.declared.GroupsRead.{GroupsRead}
-use Rattle.group_lines.specs.declared.Line.{Line}
+use Rattle.std.specs.Prelude.{Result, Ok, Err}
+use Rattle.group_lines.specs.declared.Fault.{Fault}
+use Rattle.group_lines.specs.declared.Fault.TheVariants.{BadForm, NoSuchGroup, GroupTwice, GroupMissing}
+use Rattle.group_lines.specs.declared.WrongLine.{WrongLine}
 use Rattle.group_lines.specs.Words.{after_space}
-use Rattle.group_lines.specs.Lines.{bad_form, no_such_group, group_twice, group_missing, group_in, wrong, of_group, entrants_line, words_line, line_read, refused, groups_from, groups_read}
+use Rattle.group_lines.specs.Lines.{group_in, of_group, entrants_line, words_line, line_read, wrong, after, groups_from, groups_read}
 use Rattle.group_lines.proofs.Entrants.{words-split}
 
 -- ---- the word of a group
 
 module _ (n s next : ℕ) (line : List ℕ) (k : ℕ) (ek : k ≡ word_length line) (g : ℕ) (eg : g ≡ group_in (take k line)) where
-  abbrev entrants : Line
+  abbrev entrants : Result ℕ Fault
   entrants = entrants_line n 0 (after_space (drop k line))
 
   here : line_read n s next line ≡ of_group s next g entrants
   unfolding line_read
   here = ap (words_line n s next) (words-split line) ∙ rw (sym ek, sym eg)
 
-  pub no_number : g ≡ 0 → wrong bad_form 0 ≡ line_read n s next line
+  pub no_number : g ≡ 0 → Err BadForm ≡ line_read n s next line
   unfolding of_group
   no_number z = sym (here ∙ rw (eq-eqb g 0 z))
 
   module _ (some : g ≡ 0 → ⊥) where
-    pub no-group : s < g → wrong no_such_group g ≡ line_read n s next line
+    pub no-group : s < g → Err (NoSuchGroup g) ≡ line_read n s next line
     unfolding of_group
     no-group h = sym (here ∙ rw (ne_eqb g 0 some, lt-ltb s g h))
 
     module _ (known : g ≤ s) where
-      pub before : g < next → wrong group_twice g ≡ line_read n s next line
+      pub before : g < next → Err (GroupTwice g) ≡ line_read n s next line
       unfolding of_group
       before h = sym (here ∙ rw (ne_eqb g 0 some, le-ltb s g known, lt-ltb g next h))
 
-      pub skipped : next ≤ g → next < g → wrong group_missing next ≡ line_read n s next line
+      pub skipped : next ≤ g → next < g → Err (GroupMissing next) ≡ line_read n s next line
       unfolding of_group
       skipped o h = sym (here ∙ rw (ne_eqb g 0 some, le-ltb s g known, le-ltb g next o, lt-ltb next g h))
 
@@ -52,21 +54,24 @@ module _ (n s next : ℕ) (line : List ℕ) (k : ℕ) (ek : k ≡ word_length li
       due o h = sym (here ∙ rw (ne_eqb g 0 some, le-ltb s g known, le-ltb g next o, le-ltb next g h))
 
 -- a line without fault is that of a group
-due_below : (s next g : ℕ) (entrants : Line) → (of_group s next g entrants).fault ≡ 0 → next ≤ s
+due_below : (s next g word : ℕ) (entrants : Result ℕ Fault) → of_group s next g entrants ≡ Ok word → next ≤ s
 unfolding of_group
-due_below s next g entrants = go (eqb g 0) (ltb s g) (ltb g next) (ltb next g) refl refl
+due_below s next g word entrants = go (eqb g 0) (ltb s g) (ltb g next) (ltb next g) refl refl
   where
+    no : {f : Fault} → ◌≡◌ {A = Result ℕ Fault} (Err f) (Ok word) → ⊥
+    no e = let z : ◌≡◌ {A = ℕ} 0 1 = cc in omega arith
+
     go : (a b c d : Bool) → ltb s g ≡ b → ltb g next ≡ c
-        → (cond a (wrong bad_form 0) (cond b (wrong no_such_group g) (cond c (wrong group_twice g) (cond d (wrong group_missing next) entrants)))).fault ≡ 0 → next ≤ s
-    go true b c d p q e = absurd (omega arith)
-    go false true c d p q e = absurd (omega arith)
-    go false false true d p q e = absurd (omega arith)
-    go false false false true p q e = absurd (omega arith)
+        → cond a (Err BadForm) (cond b (Err (NoSuchGroup g)) (cond c (Err (GroupTwice g)) (cond d (Err (GroupMissing next)) entrants))) ≡ Ok word → next ≤ s
+    go true b c d p q e = absurd (no e)
+    go false true c d p q e = absurd (no e)
+    go false false true d p q e = absurd (no e)
+    go false false false true p q e = absurd (no e)
     go false false false false p q e = omega (arith, ltb-false s g p, ltb-false g next q)
 
-line-below : (n s next : ℕ) (line : List ℕ) → (line_read n s next line).fault ≡ 0 → next ≤ s
-line-below n s next line e =
-    due_below s next (group_in (take (word_length line) line)) _ (ap Line.fault (sym (here n s next line (word_length line) refl _ refl)) ∙ e)
+line-below : (n s next word : ℕ) (line : List ℕ) → line_read n s next line ≡ Ok word → next ≤ s
+line-below n s next word line e =
+    due_below s next (group_in (take (word_length line) line)) word _ (sym (here n s next line (word_length line) refl _ refl) ∙ e)
 
 -- ---- what the loop keeps: the whole text gives what its rest from `at` on gives after `done` groups
 
@@ -92,38 +97,38 @@ module _ {text : List ℕ} {n s : ℕ} {groups : List ℕ} {done at : ℕ} (h : 
     lines : lines_of (drop at text) ≡ line ∷ lines_of (drop (at + len + 1) text)
     lines = rest-next text at inside ∙ rw (len_is, rest text at)
 
-    module _ (r : Line) (er : r ≡ line_read n s (done + 1) line) where
-      step : groups_from n s (lines_of text) 0 (replicate 256 0)
-          ≡ cond (eqb r.fault 0) (groups_from n s (lines_of (drop (at + len + 1) text)) (done + 1) (set groups done r.word)) (refused r.fault (done + 1) r.number)
-      step = h.rest ∙ ap (λ (ls : List (List ℕ)). groups_from n s ls done groups) lines ∙ rw (sym er)
+    step : groups_from n s (lines_of text) 0 (replicate 256 0)
+        ≡ after (line_read n s (done + 1) line) (λ word. groups_from n s (lines_of (drop (at + len + 1) text)) (done + 1) (set groups done word)) (λ fault. wrong fault (done + 1))
+    step = h.rest ∙ ap (λ (ls : List (List ℕ)). groups_from n s ls done groups) lines
 
-      pub stops : (r.fault ≡ 0 → ⊥) → refused r.fault (done + 1) r.number ≡ groups_from n s (lines_of text) 0 (replicate 256 0)
-      stops f = sym (step ∙ rw (ne_eqb r.fault 0 f))
+    pub stops : (fault : Fault) → Err fault ≡ line_read n s (done + 1) line → wrong fault (done + 1) ≡ groups_from n s (lines_of text) 0 (replicate 256 0)
+    stops fault e = sym (step ∙ rw (sym e))
 
-      pub one_more : r.fault ≡ 0 → done + 1 ≤ s
-      one_more z = line-below n s (done + 1) line (ap Line.fault (sym er) ∙ z)
+    module _ (word : ℕ) (e : Ok word ≡ line_read n s (done + 1) line) where
+      pub one_more : done + 1 ≤ s
+      one_more = line-below n s (done + 1) word line (sym e)
 
-      pub goes : r.fault ≡ 0 → {m : ℕ} → m ≡ min (at + len + 1) (length text) → Halfway text n s (set groups done r.word) (done + 1) m
-      goes z {m} e = record {
+      pub goes : {m : ℕ} → m ≡ min (at + len + 1) (length text) → Halfway text n s (set groups done word) (done + 1) m
+      goes {m} q = record {
         place = omega arith;
-        few = one_more z;
-        rest = step ∙ rw (eq-eqb r.fault 0 z) (ap (λ (l : List ℕ). groups_from n s (lines_of l) (done + 1) (set groups done r.word)) (sym (ap (λ (j : ℕ). drop j text) e ∙ drop_min text (at + len + 1))));
+        few = one_more;
+        rest = step ∙ rw (sym e) (ap (λ (l : List ℕ). groups_from n s (lines_of l) (done + 1) (set groups done word)) (sym (ap (λ (j : ℕ). drop j text) q ∙ drop_min text (at + len + 1))));
       }
 
   module _ (last : length text ≤ at) where
     end : groups_from n s (lines_of text) 0 (replicate 256 0) ≡ groups_from n s [] done groups
     end = h.rest ∙ ap (λ (l : List ℕ). groups_from n s (lines_of l) done groups) (drop_of_length-le text last)
 
-    pub too_few : done < s → refused group_missing (done + 1) (done + 1) ≡ groups_from n s (lines_of text) 0 (replicate 256 0)
+    pub too_few : done < s → wrong (GroupMissing (done + 1)) (done + 1) ≡ groups_from n s (lines_of text) 0 (replicate 256 0)
     too_few f = sym (end ∙ rw (lt-ltb done s f))
 
-    pub all_read : s ≤ done → record { fault = 0; line = 0; number = 0; groups = groups } ≡ groups_from n s (lines_of text) 0 (replicate 256 0)
+    pub all_read : s ≤ done → Ok groups ≡ groups_from n s (lines_of text) 0 (replicate 256 0)
     all_read f = sym (end ∙ rw (le-ltb done s f))
 
 pub at-start : (text : List ℕ) (n s : ℕ) → Halfway text n s (replicate 256 0) 0 0
 at-start text n s = record { place = omega arith; few = omega arith; rest = refl }
 
-pub of_limits : (text : List ℕ) (n s : ℕ) {m t : ℕ} → m ≡ min n limits.word → t ≡ min s limits.groups → {r : GroupsRead}
+pub of_limits : (text : List ℕ) (n s : ℕ) {m t : ℕ} → m ≡ min n limits.word → t ≡ min s limits.groups → {r : Result (List ℕ) WrongLine}
     → r ≡ groups_from m t (lines_of text) 0 (replicate 256 0) → r ≡ groups_read text n s
 unfolding groups_read
 of_limits text n s p q e = rw (sym p, sym q) e

@@ -3,39 +3,58 @@
 
 ghost use Rattle.std.specs.Prelude.{◌≡◌, ◌+◌, ◌≤◌, min, length, drop};
 ghost use Rattle.model.specs.Limits.{limits};
-ghost use Rattle.group_lines.specs.Lines.{number_in, group_in, wrong, entrants_line, line_read, refused, groups_read};
+ghost use Rattle.group_lines.specs.Lines.{fault_number, fault_about, number_in, group_in, entrants_line, line_read, groups_read};
 ghost use Rattle.group_lines.specs.Words.{after_space};
 
-use model::{Digits, Model};
+use model::Model;
 
-// What is wrong with a line, 1 to 6; 0 where nothing is.
-const BAD_FORM: u32 = 1;
-
-const NO_SUCH_GROUP: u32 = 2;
-
-const GROUP_TWICE: u32 = 3;
-
-const GROUP_MISSING: u32 = 4;
-
-const OUTSIDE: u32 = 5;
-
-const ENTRANT_TWICE: u32 = 6;
-
-// The reader's answer: a word for each group; or what is wrong, its line, the number of the group or entrant that it is about, and zeros.
-#[derive(Clone, Copy)]
-pub struct GroupsRead {
-    pub fault: u32,
-    pub line: u32,
-    pub number: u32,
-    pub groups: [u64; Model::GROUPS],
+// What is wrong with a line, and the group or the entrant that it is about.
+#[derive(Clone, Copy, PartialEq, Eq)]
+pub enum Fault {
+    BadForm,
+    NoSuchGroup(u32),
+    GroupTwice(u32),
+    // the group that is due
+    GroupMissing(u32),
+    Outside(u32),
+    EntrantTwice(u32),
 }
 
-// What a line gives: its group's word; or what is wrong, and the number that it is about.
-#[derive(Clone, Copy)]
-struct Line {
-    fault: u32,
-    number: u32,
-    word: u64,
+impl Fault {
+    // Its number, from 1 on, by which it is told.
+    pub fn number(self) -> u32
+        ensures { result ≡ fault_number self }
+    {
+        match self {
+            Fault::BadForm => 1,
+            Fault::NoSuchGroup(_) => 2,
+            Fault::GroupTwice(_) => 3,
+            Fault::GroupMissing(_) => 4,
+            Fault::Outside(_) => 5,
+            Fault::EntrantTwice(_) => 6,
+        }
+    }
+
+    // The number of the group or entrant that it is about; 0 of a bad form.
+    pub fn about(self) -> u32
+        ensures { result ≡ fault_about self }
+    {
+        match self {
+            Fault::BadForm => 0,
+            Fault::NoSuchGroup(k) => k,
+            Fault::GroupTwice(k) => k,
+            Fault::GroupMissing(k) => k,
+            Fault::Outside(k) => k,
+            Fault::EntrantTwice(k) => k,
+        }
+    }
+}
+
+// The first line that is wrong, from 1 on.
+#[derive(Clone, Copy, PartialEq, Eq)]
+pub struct WrongLine {
+    pub fault: Fault,
+    pub line: u32,
 }
 
 // ---- a line
@@ -44,10 +63,7 @@ struct Line {
 fn number_in(w: &[u8]) -> u32
     ensures { result ≡ number_in w.now }
 {
-    let Digits::Number(v) = line_form::variable_in(w) else {
-        return 0;
-    };
-    v
+    line_form::variable_in(w).unwrap_or(0)
 }
 
 // The number before a word's colon; 0 where it is none.
@@ -64,18 +80,8 @@ fn group_in(w: &[u8]) -> u32
     number_in(&w[..n - 1])
 }
 
-fn wrong_line(fault: u32, number: u32) -> Line
-    ensures { result ≡ wrong fault number }
-{
-    Line {
-        fault,
-        number,
-        word: 0,
-    }
-}
-
 // The entrants of a line, each after a space, from place `start` on.
-fn read_entrants(line: &[u8], start: usize, n: u32) -> Line
+fn read_entrants(line: &[u8], start: usize, n: u32) -> Result<u64, Fault>
     requires { (start ≤ length line.now) × (n ≤ limits.word) }
     ensures { result ≡ entrants_line n 0 (after_space (drop start line.now)) }
 {
@@ -86,56 +92,43 @@ fn read_entrants(line: &[u8], start: usize, n: u32) -> Line
         let k = line_form::word_length(rest);
         let e = number_in(&rest[..k]);
         if e == 0 {
-            return wrong_line(BAD_FORM, 0);
+            return Err(Fault::BadForm);
         }
         if n < e {
-            return wrong_line(OUTSIDE, e);
+            return Err(Fault::Outside(e));
         }
         if (word >> (e - 1)) % 2 == 1 {
-            return wrong_line(ENTRANT_TWICE, e);
+            return Err(Fault::EntrantTwice(e));
         }
         word = word | 1 << (e - 1);
         at = at + 1 + k;
     }
-    Line {
-        fault: 0,
-        number: 0,
-        word,
-    }
+    Ok(word)
 }
 
 // A line where group `next` is due.
-fn read_line(line: &[u8], n: u32, s: u32, next: u32) -> Line
+fn read_line(line: &[u8], n: u32, s: u32, next: u32) -> Result<u64, Fault>
     requires { n ≤ limits.word }
     ensures { result ≡ line_read n s next line.now }
 {
     let k = line_form::word_length(line);
     let g = group_in(&line[..k]);
     if g == 0 {
-        return wrong_line(BAD_FORM, 0);
+        return Err(Fault::BadForm);
     }
     if s < g {
-        return wrong_line(NO_SUCH_GROUP, g);
+        return Err(Fault::NoSuchGroup(g));
     }
     if g < next {
-        return wrong_line(GROUP_TWICE, g);
+        return Err(Fault::GroupTwice(g));
     }
     if next < g {
-        return wrong_line(GROUP_MISSING, next);
+        return Err(Fault::GroupMissing(next));
     }
     read_entrants(line, k, n)
 }
 
 // ---- all lines
-
-fn at_most(a: u32, most: u32) -> u32
-    ensures { result ≡ min a most }
-{
-    if a <= most {
-        return a;
-    }
-    most
-}
 
 // Where the next line begins, after one that ends at `end`; the last may lack its newline.
 fn next_line(text: &[u8], end: usize) -> usize
@@ -147,45 +140,32 @@ fn next_line(text: &[u8], end: usize) -> usize
     text.len()
 }
 
-fn refuse(fault: u32, line: u32, number: u32) -> GroupsRead
-    ensures { result ≡ refused fault line number }
-{
-    GroupsRead {
-        fault,
-        line,
-        number,
-        groups: [0; Model::GROUPS],
-    }
-}
-
-// The groups of a draw of n entrants in s groups.
-pub fn read_groups(text: &[u8], n: u32, s: u32) -> GroupsRead
+// The groups of a draw of n entrants in s groups, a word for each; or the first line that is wrong.
+pub fn read_groups(text: &[u8], n: u32, s: u32) -> Result<[u64; Model::GROUPS], WrongLine>
     ensures { result ≡ groups_read text.now n s }
 {
-    let entrants = at_most(n, Model::WORD);
-    let count = at_most(s, Model::GROUPS as u32);
+    let entrants = n.min(Model::WORD);
+    let count = s.min(Model::GROUPS as u32);
     let mut groups: [u64; Model::GROUPS] = [0; Model::GROUPS];
     let mut done: u32 = 0;
     let mut at: usize = 0;
     while at < text.len() {
         let rest = &text[at..];
         let len = sheet::line_length(rest);
-        let line = read_line(&rest[..len], entrants, count, done + 1);
-        if line.fault != 0 {
-            return refuse(line.fault, done + 1, line.number);
+        let line = done + 1;
+        match read_line(&rest[..len], entrants, count, line) {
+            Ok(word) => groups[done as usize] = word,
+            Err(fault) => return Err(WrongLine { fault, line }),
         }
-        let i = done as usize;
-        groups[i] = line.word;
-        done += 1;
+        done = line;
         at = next_line(text, at + len);
     }
     if done < count {
-        return refuse(GROUP_MISSING, done + 1, done + 1);
+        let next = done + 1;
+        return Err(WrongLine {
+            fault: Fault::GroupMissing(next),
+            line: next,
+        });
     }
-    GroupsRead {
-        fault: 0,
-        line: 0,
-        number: 0,
-        groups,
-    }
+    Ok(groups)
 }

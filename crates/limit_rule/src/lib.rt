@@ -1,207 +1,147 @@
 // The limits of a constraint, request 1 of document 02: what low and high pass on from group to group.
+// Total: the limits of a group that is not there are 0, and nothing is stored of it.
 #![tactic(auto)]
 
-ghost use Rattle.std.specs.Prelude.{◌≡◌, map, ◌+◌, ◌-◌, ◌≤◌, min, length, get_or, take, drop};
+ghost use Rattle.std.specs.Prelude.{◌≡◌, map, ◌-◌, ◌≤◌, length};
 ghost use Rattle.model.specs.Limits.{limits};
 ghost use Rattle.model.specs.Lists.{total, on_place};
+ghost use Rattle.model.specs.Model.{group_at};
 ghost use Rattle.model.specs.LimitRules.{raised, lowered, low_at_least, high_at_most, low_first, high_first, union_limits, limit_rules};
 ghost use Rattle.model.specs.Propagate.{run};
-ghost use Rattle.limit_rule.specs.Moves.{limit_of, Moves, MovesLow, MovesHigh, lows_after, highs_after};
 
 use model::{Constraint, Model};
+use table::Table;
 
 // ---- one limit
 
-// Where group g stands.
-fn place(g: u32) -> usize
-    ensures { result ≡ g - 1 }
-{
-    if g == 0 {
-        return 0;
-    }
-    g as usize - 1
-}
-
-// The limit of group g, and 0 where there is no such group.
-fn limit_of(limits: &[u32; Model::GROUPS], g: u32) -> u32
-    ensures { result ≡ limit_of limits.now g }
-{
-    let i = place(g);
-    if Model::GROUPS <= i {
-        return 0;
-    }
-    limits[i]
-}
-
 // The low of group g becomes at least v.
-fn raise(low: &mut [u32; Model::GROUPS], g: u32, v: u32)
-    ensures { MovesLow (on_place (g - 1) (raised v)) low.old low.new }
+fn raise(t: &mut Table, g: u32, v: u32)
+    ensures { t.new ≡ on_place (g - 1) (raised v) t.old }
 {
-    if v <= limit_of(low, g) {
+    let i = g.saturating_sub(1) as usize;
+    if Model::GROUPS <= i {
         return;
     }
-    let i = place(g);
-    if i < Model::GROUPS {
-        low[i] = v;
+    if t[i].low < v {
+        t[i].low = v;
     }
 }
 
 // The high of group g becomes at most v.
-fn lower(high: &mut [u32; Model::GROUPS], g: u32, v: u64)
-    ensures { MovesHigh (on_place (g - 1) (lowered v)) high.old high.new }
+fn lower(t: &mut Table, g: u32, v: u64)
+    ensures { t.new ≡ on_place (g - 1) (lowered v) t.old }
 {
-    if limit_of(high, g) as u64 <= v {
+    let i = g.saturating_sub(1) as usize;
+    if Model::GROUPS <= i {
         return;
     }
-    let i = place(g);
-    if i < Model::GROUPS {
-        high[i] = v as u32;
+    if v < t[i].high as u64 {
+        t[i].high = v as u32;
     }
 }
 
-// ---- inclusion
-
-// F is within G: low of G at least low of F, high of F at most high of G. Which comes first is not seen.
-fn within(low: &mut [u32; Model::GROUPS], high: &mut [u32; Model::GROUPS], f: u32, g: u32)
-    ensures moves { Moves (run (low_first f g)) low.old high.old low.new high.new }
-    ensures moves_2 { Moves (run (high_first f g)) low.old high.old low.new high.new }
+// Low of G at least low of F.
+#[tactic(auto, unfolding(model::specs::LimitRules::low_at_least))]
+fn low_at_least(t: &mut Table, g: u32, f: u32)
+    ensures { t.new ≡ low_at_least g f t.old }
 {
-    let least = limit_of(low, f);
-    raise(low, g, least);
-    let most = limit_of(high, g);
-    lower(high, f, most as u64);
+    let least = table::group_at(t, f).low;
+    raise(t, g, least);
 }
 
-// ---- union: H stands first, its members from place 1 to below count
+// High of F at most high of G.
+#[tactic(auto, unfolding(model::specs::LimitRules::high_at_most))]
+fn high_at_most(t: &mut Table, f: u32, g: u32)
+    ensures { t.new ≡ high_at_most f g t.old }
+{
+    let most = table::group_at(t, g).high;
+    lower(t, f, most as u64);
+}
+
+// ---- inclusion: F within G, told of F first, or H within F, told of H first
+
+#[tactic(auto, unfolding(model::specs::LimitRules::low_first))]
+fn low_first(t: &mut Table, f: u32, g: u32)
+    ensures { t.new ≡ run (low_first f g) t.old }
+{
+    low_at_least(t, g, f);
+    high_at_most(t, f, g);
+}
+
+#[tactic(auto, unfolding(model::specs::LimitRules::high_first))]
+fn high_first(t: &mut Table, h: u32, f: u32)
+    ensures { t.new ≡ run (high_first h f) t.old }
+{
+    high_at_most(t, h, f);
+    low_at_least(t, f, h);
+}
+
+// ---- union: H of the members fs
 
 // Low of H at least each member's low.
-fn raise_union(low: &mut [u32; Model::GROUPS], ids: &[u32; Model::MEMBERS], count: usize)
-    requires { (count ≤ limits.members) × (length ids.now ≡ limits.members) }
-    ensures { MovesLow (run (map (low_at_least (get_or ids.now 0 0)) (drop 1 (take count ids.now)))) low.old low.new }
+fn raise_union(t: &mut Table, h: u32, fs: &[u32])
+    ensures { t.new ≡ run (map (low_at_least h) fs.now) t.old }
 {
-    let mut top = limit_of(low, ids[0]);
-    let mut i: usize = 1;
-    while i < count {
-        let least = limit_of(low, ids[i]);
-        i += 1;
-        if least <= top {
-            continue;
-        }
-        raise(low, ids[0], least);
-        top = limit_of(low, ids[0]);
+    for f in fs {
+        low_at_least(t, h, *f);
     }
 }
 
 // Each member's high at most high of H.
-fn lower_members(high: &mut [u32; Model::GROUPS], ids: &[u32; Model::MEMBERS], count: usize)
-    requires { (count ≤ limits.members) × (length ids.now ≡ limits.members) }
-    ensures { MovesHigh (run (map (λ f. high_at_most f (get_or ids.now 0 0)) (drop 1 (take count ids.now)))) high.old high.new }
+fn lower_members(t: &mut Table, h: u32, fs: &[u32])
+    ensures { t.new ≡ run (map (λ f. high_at_most f h) fs.now) t.old }
 {
-    let mut most = limit_of(high, ids[0]);
-    let mut i: usize = 1;
-    while i < count {
-        let f = ids[i];
-        i += 1;
-        if limit_of(high, f) <= most {
-            continue;
-        }
-        lower(high, f, most as u64);
-        most = limit_of(high, ids[0]);
+    for f in fs {
+        high_at_most(t, *f, h);
     }
 }
 
 // The sum of the members' highs.
-fn sum_of(high: &[u32; Model::GROUPS], ids: &[u32; Model::MEMBERS], count: usize) -> u64
-    requires { (count ≤ limits.members) × (length ids.now ≡ limits.members) }
-    ensures { result ≡ total (limit_of high.now) (drop 1 (take count ids.now)) }
+fn sum_of(t: &Table, fs: &[u32]) -> u64
+    requires { length fs.now ≤ limits.members }
+    ensures { result ≡ total (λ f. (group_at t.now f).high) fs.now }
 {
     let mut sum: u64 = 0;
-    let mut i: usize = 1;
-    while i < count {
-        sum += limit_of(high, ids[i]) as u64;
-        i += 1;
+    for f in fs {
+        sum += table::group_at(t, *f).high as u64;
     }
     sum
 }
 
 // The three rounds of a union.
-fn union_limits(
-    low: &mut [u32; Model::GROUPS],
-    high: &mut [u32; Model::GROUPS],
-    ids: &[u32; Model::MEMBERS],
-    count: usize,
-)
-    requires { (count ≤ limits.members) × (length ids.now ≡ limits.members) }
-    ensures { Moves (run (union_limits (get_or ids.now 0 0) (drop 1 (take count ids.now)))) low.old high.old low.new high.new }
+fn union_limits(t: &mut Table, h: u32, fs: &[u32])
+    requires { length fs.now ≤ limits.members }
+    ensures { t.new ≡ run (union_limits h fs.now) t.old }
 {
-    raise_union(low, ids, count);
-    lower_members(high, ids, count);
-    let sum = sum_of(high, ids, count);
-    lower(high, ids[0], sum);
-}
-
-// How many groups a union of k has, H included.
-fn union_count(k: u32) -> usize
-    ensures { result ≡ min (k + 1) limits.members }
-{
-    let count = k as usize + 1;
-    if count < Model::MEMBERS {
-        return count;
-    }
-    Model::MEMBERS
+    raise_union(t, h, fs);
+    lower_members(t, h, fs);
+    let sum = sum_of(t, fs);
+    lower(t, h, sum);
 }
 
 // ---- a constraint
 
-// Its steps in order.
-fn limits_moved(low: &mut [u32; Model::GROUPS], high: &mut [u32; Model::GROUPS], c: Constraint)
-    ensures { Moves (run (limit_rules c)) low.old high.old low.new high.new }
+// Its steps in order, whatever the groups' entrants are.
+pub fn applied(t: &mut Table, c: &Constraint)
+    ensures { t.new ≡ run (limit_rules c.now) t.old }
 {
-    let ids = c.groups;
-    if c.code == 1 {
-        within(low, high, ids[0], ids[1]);
-        within(low, high, ids[1], ids[0]);
-        return;
+    let ids = &c.groups;
+    match c.code {
+        1 => {
+            low_first(t, ids[0], ids[1]);
+            low_first(t, ids[1], ids[0]);
+        }
+        2 => low_first(t, ids[0], ids[1]),
+        3 => {
+            high_first(t, ids[0], ids[1]);
+            high_first(t, ids[0], ids[2]);
+        }
+        4 => union_limits(t, ids[0], &ids[1..3]),
+        5 => high_first(t, ids[0], ids[1]),
+        6 => {
+            let count = (c.count as usize + 1).min(Model::MEMBERS);
+            union_limits(t, ids[0], &ids[1..count]);
+        }
+        _ => {}
     }
-    if c.code == 2 {
-        within(low, high, ids[0], ids[1]);
-        return;
-    }
-    if c.code == 3 {
-        within(low, high, ids[0], ids[1]);
-        within(low, high, ids[0], ids[2]);
-        return;
-    }
-    if c.code == 4 {
-        union_limits(low, high, &ids, 3);
-        return;
-    }
-    if c.code == 5 {
-        within(low, high, ids[0], ids[1]);
-        return;
-    }
-    if c.code == 6 {
-        let count = union_count(c.count);
-        union_limits(low, high, &ids, count);
-    }
-}
-
-// What owning two arrays tells of their lengths.
-fn sized(low: [u32; Model::GROUPS], high: [u32; Model::GROUPS])
-    ensures { (length low ≡ limits.groups) × (length high ≡ limits.groups) }
-{}
-
-// The limits after a constraint's rules of limits, whatever the groups' entrants are.
-pub fn applied(low: &mut [u32; Model::GROUPS], high: &mut [u32; Model::GROUPS], c: Constraint)
-    ensures low_after { low.new ≡ lows_after c low.old high.old }
-    ensures high_after { high.new ≡ highs_after c low.old high.old }
-    ensures moves { Moves (run (limit_rules c)) low.old high.old low.new high.new }
-{
-    let l = *low;
-    let h = *high;
-    sized(l, h);
-    limits_moved(low, high, c);
-    let m = *low;
-    let k = *high;
-    sized(m, k);
 }

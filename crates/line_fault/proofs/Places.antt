@@ -5,7 +5,8 @@ use mathlib.Core.Bool.{Bool, true, false, cond, ◌&&◌}
 use native.Mathlib.Decide.{dec_le}
 use native.Mathlib.Omega.{arith}
 use native.Mathlib.Numerals.{add-one}
-use Rattle.model.specs.Lists.{every, range}
+use Rattle.std.specs.List.{list_all}
+use Rattle.model.specs.Lists.{range}
 use Rattle.line_fault.specs.Fault.{first_not}
 
 -- ---- a loop from i on: w is what the search from i on finds
@@ -46,13 +47,13 @@ before-holds p a (suc k) j h i = go (p a) refl (λ x y. before-holds p (suc a) k
         at (no f) = later (omega arith) i
     go false e later i = absurd (omega arith)
 
-pub there-fails : (p : ℕ → Bool) (a k : ℕ) → every p (range a k) ≡ false → (first_not p a k < a + k) × (p (first_not p a k) ≡ false)
+pub there-fails : (p : ℕ → Bool) (a k : ℕ) → list_all p (range a k) ≡ false → (first_not p a k < a + k) × (p (first_not p a k) ≡ false)
 there-fails p a zero e = let z : ◌≡◌ {A = ℕ} 0 1 = cc in absurd (omega arith)
 there-fails p a (suc k) e = go (p a) refl (there-fails p (suc a) k) e
   where
     go : (b : Bool) → p a ≡ b
-        → (every p (range (suc a) k) ≡ false → (first_not p (suc a) k < suc a + k) × (p (first_not p (suc a) k) ≡ false))
-        → (b && every p (range (suc a) k)) ≡ false
+        → (list_all p (range (suc a) k) ≡ false → (first_not p (suc a) k < suc a + k) × (p (first_not p (suc a) k) ≡ false))
+        → (b && list_all p (range (suc a) k)) ≡ false
         → (cond b (first_not p (suc a) k) a < a + suc k) × (p (cond b (first_not p (suc a) k) a) ≡ false)
     go true q later e = let r = later e in (omega (arith, r.0), r.1)
     go false q later e = (omega arith, q)

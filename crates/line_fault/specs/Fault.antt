@@ -8,6 +8,8 @@ use Rattle.model.specs.Sheet.{field_at, field_value, field_number, value_at, is_
 use Rattle.line_fault.specs.declared.Head.{Head}
 use Rattle.line_fault.specs.declared.Columns.{Columns}
 use Rattle.line_fault.specs.declared.Four.{Four}
+use Rattle.line_fault.specs.declared.Name.{Name}
+use Rattle.line_fault.specs.declared.Name.TheVariants as name
 use Rattle.line_fault.specs.declared.Range.{Range}
 use Rattle.line_fault.specs.declared.Fault.{Fault}
 use Rattle.line_fault.specs.declared.Fault.TheVariants.{Nothing, OrderMark, Return, Tab, Width, Unread, Outside, Count, Marks}
@@ -57,27 +59,27 @@ unfoldable pub number_at : List ℕ → ℕ → ℕ
 number_at l i = field_number (field_value (field_at l i)) (is_mark_column l i)
 
 -- what a number is, with the least and the most that it may be
-abbrev pub bounds : ℕ → ℕ → ℕ → Range
-bounds name low high = record { name = name; low = low; high = high }
+abbrev pub bounds : Name → ℕ → ℕ → Range
+bounds n low high = record { name = n; low = low; high = high }
 
 -- "1, n (entrants, 1 to 32), s (groups, 1 to 256), c (constraint lines, 0 to 256)"; "With n above 32, s is at most 96"
 unfoldable pub head_range : List ℕ → ℕ → Range
 head_range l i =
-    cond (eqb i 1) (bounds 1 1 limits.entrants)
-    (cond (eqb i 2) (bounds (cond (leb (value_at l 1) limits.narrow) 2 3) 1 (groups_for (value_at l 1)))
-    (bounds 4 0 limits.constraints))
+    cond (eqb i 1) (bounds name.Entrants 1 limits.entrants)
+    (cond (eqb i 2) (bounds (cond (leb (value_at l 1) limits.narrow) name.Groups name.GroupsOfMany) 1 (groups_for (value_at l 1)))
+    (bounds name.Constraints 0 limits.constraints))
 
 -- "low, high (low ≤ high ≤ n), then a mark per entrant: 0 barred, 1 open, 2 fixed"
 unfoldable pub group_range : ℕ → List ℕ → ℕ → Range
 group_range n l i =
-    cond (eqb i 2) (bounds 5 0 (min (value_at l 3) n))
-    (cond (eqb i 3) (bounds 6 0 n) (bounds 7 0 2))
+    cond (eqb i 2) (bounds name.Low 0 (min (value_at l 3) n))
+    (cond (eqb i 3) (bounds name.High 0 n) (bounds name.Mark 0 2))
 
 -- of the line after `done` lines, of which the head said n and s; "Group numbers are 1 to s"
 unfoldable pub field_range : Head → ℕ → List ℕ → ℕ → Range
 field_range h done l i =
     cond (eqb done 0) (head_range l i)
-    (cond (leb done h.s) (group_range h.n l i) (bounds 8 1 h.s))
+    (cond (leb done h.s) (group_range h.n l i) (bounds name.Group 1 h.s))
 
 -- the first field that 7 judges: "a group line's own number is judged by 8 alone"
 unfoldable pub first_judged : Head → ℕ → List ℕ → ℕ
@@ -100,8 +102,8 @@ out_fault h done l = number_fault l (out_field h done l) (field_range h done l (
 unfoldable pub constraint_count : List ℕ → Fault
 constraint_count l =
     cond (ltb (length l / 4) 4) (Count (length l / 4) 4 (limits.members + 3))
-    (cond (not (between 1 7 (value_at l 1))) (number_fault l 1 (bounds 9 1 7))
-    (cond (not (code_in_range (value_at l 1) (count_from l))) (number_fault l 2 (bounds 10 2 (limits.members - 1)))
+    (cond (not (between 1 7 (value_at l 1))) (number_fault l 1 (bounds name.Code 1 7))
+    (cond (not (code_in_range (value_at l 1) (count_from l))) (number_fault l 2 (bounds name.Count 2 (limits.members - 1)))
     (Count (length l / 4) (first_group l + group_count l) (first_group l + group_count l))))
 
 unfoldable pub count_fault : Head → ℕ → List ℕ → Fault
@@ -112,11 +114,11 @@ count_fault h done l =
 -- ---- 5 of the head, and 8
 
 unfoldable pub kind_fault : List ℕ → Fault
-kind_fault l = number_fault l 0 (bounds 11 1 1)
+kind_fault l = number_fault l 0 (bounds name.Kind 1 1)
 
 -- group `done` is due
 unfoldable pub next_fault : ℕ → List ℕ → Fault
-next_fault done l = number_fault l 1 (bounds 12 done done)
+next_fault done l = number_fault l 1 (bounds name.NextGroup done done)
 
 -- ---- the fault of a line with that refusal, after `done` lines, of which the head said h
 

@@ -32,38 +32,34 @@ pub struct Four {
     pub d: u8,
 }
 
+// What a number is.
+#[derive(Clone, Copy, PartialEq, Eq)]
+pub enum Name {
+    Entrants,
+    Groups,
+    // with more entrants than Model::NARROW
+    GroupsOfMany,
+    Constraints,
+    Low,
+    High,
+    Mark,
+    Group,
+    Code,
+    // of code 6
+    Count,
+    // the head's first field
+    Kind,
+    // the group whose line is due
+    NextGroup,
+}
+
 // What a number is, with the least and the most that it may be.
 #[derive(Clone, Copy)]
 pub struct Range {
-    pub name: u32,
+    pub name: Name,
     pub low: u32,
     pub high: u32,
 }
-
-// What numbers there are.
-const ENTRANTS: u32 = 1;
-
-const GROUPS: u32 = 2;
-
-const GROUPS_OF_MANY: u32 = 3;
-
-const CONSTRAINTS: u32 = 4;
-
-const LOW: u32 = 5;
-
-const HIGH: u32 = 6;
-
-const MARK: u32 = 7;
-
-const GROUP: u32 = 8;
-
-const CODE: u32 = 9;
-
-const COUNT: u32 = 10;
-
-const KIND: u32 = 11;
-
-const NEXT_GROUP: u32 = 12;
 
 #[derive(Clone, Copy)]
 pub enum Fault {
@@ -96,10 +92,7 @@ pub enum Fault {
 fn byte(line: &[u8], i: usize) -> u8
     ensures { result ≡ get_or line.now i 0 }
 {
-    if i < line.len() {
-        return line[i];
-    }
-    0
+    line.get(i).copied().unwrap_or(0)
 }
 
 fn columns_of(i: usize) -> Columns
@@ -133,25 +126,19 @@ fn has_order_mark(done: u32, line: &[u8]) -> bool
 fn last_byte(line: &[u8]) -> u8
     ensures { result ≡ get_or line.now (length line.now - 1) 0 }
 {
-    let n = line.len();
-    if n == 0 {
-        return 0;
-    }
-    line[n - 1]
+    line.last().copied().unwrap_or(0)
 }
 
 // The place of the first tab; the line's length where it has none.
 fn first_tab(line: &[u8]) -> usize
     ensures { result ≡ tab_at line.now }
 {
-    let mut i: usize = 0;
-    while i < line.len() {
-        if line[i] == 9 {
+    for (i, b) in line.iter().enumerate() {
+        if *b == b'\t' {
             return i;
         }
-        i += 1;
     }
-    i
+    line.len()
 }
 
 // A byte order mark before the head, a carriage return at the line's end, a tab; else the other fault.
@@ -187,14 +174,12 @@ fn first_bad(line: &[u8]) -> usize
     ensures { result ≡ bad_field line.now }
 {
     let k = line.len() / 4;
-    let mut i: usize = 0;
-    while i < k {
+    for i in 0..k {
         if !is_good(line, i) {
             return i;
         }
-        i += 1;
     }
-    i
+    k
 }
 
 fn four_of(f: &[u8]) -> Four
@@ -231,16 +216,7 @@ fn number_at(line: &[u8], i: usize) -> u32
     }
 }
 
-fn at_most(a: u32, most: u32) -> u32
-    ensures { result ≡ min a most }
-{
-    if a <= most {
-        return a;
-    }
-    most
-}
-
-fn bounds(name: u32, low: u32, high: u32) -> Range
+fn bounds(name: Name, low: u32, high: u32) -> Range
     ensures { result ≡ bounds name low high }
 {
     Range { name, low, high }
@@ -251,17 +227,17 @@ fn head_range(line: &[u8], i: usize) -> Range
     ensures { result ≡ head_range line.now i }
 {
     if i == 1 {
-        return bounds(ENTRANTS, 1, Model::ENTRANTS);
+        return bounds(Name::Entrants, 1, Model::ENTRANTS);
     }
     if i != 2 {
-        return bounds(CONSTRAINTS, 0, Model::CONSTRAINTS as u32);
+        return bounds(Name::Constraints, 0, Model::CONSTRAINTS as u32);
     }
     let n = sheet::value(line, 1);
     let most = model::groups_for(n) as u32;
     if n <= Model::NARROW {
-        return bounds(GROUPS, 1, most);
+        return bounds(Name::Groups, 1, most);
     }
-    bounds(GROUPS_OF_MANY, 1, most)
+    bounds(Name::GroupsOfMany, 1, most)
 }
 
 // The range of field i of a group line of n marks.
@@ -269,12 +245,12 @@ fn group_range(n: u32, line: &[u8], i: usize) -> Range
     ensures { result ≡ group_range n line.now i }
 {
     if i == 2 {
-        return bounds(LOW, 0, at_most(sheet::value(line, 3), n));
+        return bounds(Name::Low, 0, sheet::value(line, 3).min(n));
     }
     if i == 3 {
-        return bounds(HIGH, 0, n);
+        return bounds(Name::High, 0, n);
     }
-    bounds(MARK, 0, 2)
+    bounds(Name::Mark, 0, 2)
 }
 
 // The range of field i of the line after `done` lines.
@@ -287,7 +263,7 @@ fn field_range(h: Head, done: u32, line: &[u8], i: usize) -> Range
     if done <= h.s {
         return group_range(h.n, line, i);
     }
-    bounds(GROUP, 1, h.s)
+    bounds(Name::Group, 1, h.s)
 }
 
 fn is_in_range(h: Head, done: u32, line: &[u8], i: usize) -> bool
@@ -319,14 +295,13 @@ fn first_out(h: Head, done: u32, line: &[u8]) -> usize
     ensures { result ≡ out_field h done line.now }
 {
     let k = line.len() / 4;
-    let mut i = first_judged(h, done, line);
-    while i < k {
+    let first = first_judged(h, done, line);
+    for i in first..k {
         if !is_in_range(h, done, line, i) {
             return i;
         }
-        i += 1;
     }
-    i
+    k.max(first)
 }
 
 fn number_fault(line: &[u8], i: usize, r: Range) -> Fault
@@ -367,14 +342,14 @@ fn constraint_count(line: &[u8]) -> Fault
     }
     let code = sheet::value(line, 1);
     if code < 1 {
-        return number_fault(line, 1, bounds(CODE, 1, 7));
+        return number_fault(line, 1, bounds(Name::Code, 1, 7));
     }
     if 7 < code {
-        return number_fault(line, 1, bounds(CODE, 1, 7));
+        return number_fault(line, 1, bounds(Name::Code, 1, 7));
     }
     let count = count_from(line, code);
     if !range::code_in_range(code, count) {
-        return number_fault(line, 2, bounds(COUNT, 2, Model::MEMBERS as u32 - 1));
+        return number_fault(line, 2, bounds(Name::Count, 2, Model::MEMBERS as u32 - 1));
     }
     let must = (sheet::first_group(code) + range::member_count(code, count)) as u32;
     Fault::Count(has, must, must)
@@ -406,10 +381,10 @@ pub fn find(h: Head, done: u32, refusal: u32, line: &[u8]) -> Fault
     match refusal {
         3 => form_fault(done, line, Fault::Width(line.len() as u32)),
         4 => form_fault(done, line, unread_fault(line)),
-        5 => number_fault(line, 0, bounds(KIND, 1, 1)),
+        5 => number_fault(line, 0, bounds(Name::Kind, 1, 1)),
         6 => count_fault(h, done, line),
         7 => out_fault(h, done, line),
-        8 => number_fault(line, 1, bounds(NEXT_GROUP, done, done)),
+        8 => number_fault(line, 1, bounds(Name::NextGroup, done, done)),
         _ => Fault::Nothing,
     }
 }

@@ -3,7 +3,7 @@ use Prim.Native.Nat.{ℕ, suc, ◌+◌, ◌-◌, ◌≤◌, ◌<◌, min}
 use mathlib.Core.Path.{◌≡◌, refl, ap, sym, ◌∙◌}
 use mathlib.Core.Bool.{Bool, true, false, cond, ◌&&◌}
 use mathlib.Core.List.{List, [], ◌∷◌}
-use mathlib.Core.Option.{Option, none, some}
+use Rattle.std.specs.Prelude.{Option, None, Some}
 use native.Mathlib.Numerals.{add-one}
 use native.Mathlib.Decide.{dec_lt}
 use native.Mathlib.Omega.{arith}
@@ -123,25 +123,25 @@ words-some (b ∷ bs) = go (eqb b 32) (words-some bs)
 -- ---- the number and the values of a word
 
 -- by its sign, whether it is `0`, and the variable that its digits name with the sign and without it
-says : (m z : Bool) (o p : Option ℕ) → (z ≡ true → m ≡ false) → (z ≡ true → p ≡ none)
+says : (m z : Bool) (o p : Option ℕ) → (z ≡ true → m ≡ false) → (z ≡ true → p ≡ None)
     → ((word_refusal (cond m (as_literal Neg o) (cond z Closing (as_literal Pos p))) ≡ cond z 0 (if_none 10 (cond m o p))) × (word_closes (cond m (as_literal Neg o) (cond z Closing (as_literal Pos p))) ≡ z))
     × ((word_variable (cond m (as_literal Neg o) (cond z Closing (as_literal Pos p))) ≡ or_zero (cond m o p)) × (word_says (cond m (as_literal Neg o) (cond z Closing (as_literal Pos p))) ≡ signed m (cond m o p)))
 says true true o p f g = let z : ◌≡◌ {A = ℕ} 0 1 = contradiction (f refl) in absurd (omega arith)
   where
     contradiction : true ≡ false → ◌≡◌ {A = ℕ} 0 1
     contradiction q = cc
-says true false none p f g = ((refl, refl), (refl, refl))
-says true false (some v) p f g = ((refl, refl), (refl, refl))
-says false true o none f g = ((refl, refl), (refl, refl))
-says false true o (some v) f g = let e = g refl in let z : ◌≡◌ {A = ℕ} 0 1 = cc in absurd (omega arith)
-says false false o none f g = ((refl, refl), (refl, refl))
-says false false o (some v) f g = ((refl, refl), (refl, refl))
+says true false None p f g = ((refl, refl), (refl, refl))
+says true false (Some v) p f g = ((refl, refl), (refl, refl))
+says false true o None f g = ((refl, refl), (refl, refl))
+says false true o (Some v) f g = let e = g refl in let z : ◌≡◌ {A = ℕ} 0 1 = cc in absurd (omega arith)
+says false false o None f g = ((refl, refl), (refl, refl))
+says false false o (Some v) f g = ((refl, refl), (refl, refl))
 
-pub zero-names-none : (l : List ℕ) → eqb (get_or l 0 0) 48 ≡ true → variable_in l ≡ none
+pub zero-names-none : (l : List ℕ) → eqb (get_or l 0 0) 48 ≡ true → variable_in l ≡ None
 unfolding variable_in
 zero-names-none l e = rw e (go (leb (length l) 9))
   where
-    go : (b : Bool) → cond (b && false) (number_of l) none ≡ none
+    go : (b : Bool) → cond (b && false) (number_of l) None ≡ None
     go true = refl
     go false = refl
 
@@ -183,6 +183,6 @@ word-says (b ∷ bs) r e =
     apart true p q = ne_eqb b 45 (λ z. omega (arith, eqb-true b 48 p, z))
     apart false p q = let z = contradiction q in absurd (omega arith)
 
-    none_here : (t : Bool) → eqb b 48 ≡ t → (t && eqb (length bs) 0) ≡ true → variable_in (b ∷ bs) ≡ none
+    none_here : (t : Bool) → eqb b 48 ≡ t → (t && eqb (length bs) 0) ≡ true → variable_in (b ∷ bs) ≡ None
     none_here true p q = zero-names-none (b ∷ bs) p
     none_here false p q = let z = contradiction q in absurd (omega arith)

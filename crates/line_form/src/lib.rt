@@ -2,70 +2,55 @@
 #![tactic(auto)]
 
 ghost use Rattle.std.specs.Prelude.{◌≡◌, cond, leb, length};
-ghost use Rattle.std.proofs.Math.Option.{none};
-ghost use Rattle.model.specs.Sheet.{number_of, digits_value, if_none, or_zero};
-ghost use Rattle.model.specs.Assignment.{words_of, variable_in, word_value, say_words, form_of, variable_refusal, word_refusal, word_variable, word_says, word_closes, has_minus, variable_said, signed, is_zero, said_by};
+ghost use Rattle.std.specs.Prelude.{None};
+ghost use Rattle.model.specs.Sheet.{number_of, if_none, or_zero};
+ghost use Rattle.model.specs.Assignment.{words_of, variable_in, word_value, say_words, form_of, word_refusal, word_variable, word_says, word_closes, has_minus, variable_said, signed, is_zero, said_by};
 ghost use Rattle.line_form.specs.Form.{word_length, form_from, form_refusal, form_count, form_closes, unsaid};
 
-use model::{Digits, Literal, Word};
+use model::{Literal, Word};
 
-// A good form: how many literals the line names, and whether a closing 0 ends it.
-#[derive(Clone, Copy)]
+// The form of a `v` line: how many literals it names, and whether a closing 0 ends it.
+#[derive(Clone, Copy, PartialEq, Eq)]
 pub struct Shape {
     pub count: usize,
     pub closed: bool,
-}
-
-// The form of a `v` line.
-#[derive(Clone, Copy)]
-pub enum Form {
-    Wrong,
-    Good(Shape),
 }
 
 // How many bytes stand before the first space.
 pub fn word_length(s: &[u8]) -> usize
     ensures { result ≡ word_length s.now }
 {
-    let mut i: usize = 0;
-    while i < s.len() {
-        if s[i] == 32 {
-            return i;
-        }
-        i += 1;
-    }
-    i
+    model::length_before(s, b' ')
 }
 
 // The number that digits stand for, of variables that an argument counts: no needless zero, up to 9 of them.
-pub fn count_in(d: &[u8]) -> Digits
-    ensures { digits_value result ≡ cond (leb (length d.now) 9) (number_of d.now) none }
+pub fn count_in(d: &[u8]) -> Option<u32>
+    ensures { result ≡ cond (leb (length d.now) 9) (number_of d.now) None }
 {
     if d.len() == 0 {
-        return Digits::Bad;
+        return None;
     }
     if 1 < d.len() {
         if d[0] == 48 {
-            return Digits::Bad;
+            return None;
         }
     }
     model::decimal(d)
 }
 
 // The number that digits stand for, of a variable or of a draw's group or entrant: no leading zero, up to 9 of them.
-pub fn variable_in(d: &[u8]) -> Digits
-    ensures result_value { digits_value result ≡ variable_in d.now }
-    ensures result_value_2 { variable_refusal result ≡ if_none 10 (variable_in d.now) }
+pub fn variable_in(d: &[u8]) -> Option<u32>
+    ensures { result ≡ variable_in d.now }
 {
     let n = d.len();
     if n == 0 {
-        return Digits::Bad;
+        return None;
     }
     if 9 < n {
-        return Digits::Bad;
+        return None;
     }
     if d[0] == 48 {
-        return Digits::Bad;
+        return None;
     }
     model::decimal(d)
 }
@@ -81,7 +66,7 @@ pub fn word_value(w: &[u8]) -> Word
         return Word::Malformed;
     }
     if w[0] == 45 {
-        let Digits::Number(v) = variable_in(&w[1..]) else {
+        let Some(v) = variable_in(&w[1..]) else {
             return Word::Malformed;
         };
         return Word::Names(Literal::Neg(v));
@@ -92,7 +77,7 @@ pub fn word_value(w: &[u8]) -> Word
         }
         return Word::Malformed;
     }
-    let Digits::Number(v) = variable_in(w) else {
+    let Some(v) = variable_in(w) else {
         return Word::Malformed;
     };
     Word::Names(Literal::Pos(v))
@@ -102,15 +87,11 @@ pub fn word_value(w: &[u8]) -> Word
 fn word_closes(w: Word) -> bool
     ensures { result ≡ word_closes w }
 {
-    match w {
-        Word::Names(_) => false,
-        Word::Closing => true,
-        Word::Malformed => false,
-    }
+    matches!(w, Word::Closing)
 }
 
 // The form of the words of s: literals, and at the end a closing 0 or none.
-fn words_form(s: &[u8]) -> Form
+fn words_form(s: &[u8]) -> Option<Shape>
     ensures value { result ≡ form_from (say_words (words_of s.now)) }
     ensures result_value { (form_refusal result ≡ unsaid 10 (say_words (words_of s.now))) × (form_count result ≡ length (said_by (say_words (words_of s.now))).literals) × (form_closes result ≡ (said_by (say_words (words_of s.now))).closed) }
 {
@@ -123,46 +104,46 @@ fn words_form(s: &[u8]) -> Form
         let w = word_value(&rest[..k]);
         if at + k == n {
             if word_closes(w) {
-                return Form::Good(Shape {
+                return Some(Shape {
                     count,
                     closed: true,
                 });
             }
         }
         let Word::Names(_) = w else {
-            return Form::Wrong;
+            return None;
         };
         count += 1;
         if at + k == n {
-            return Form::Good(Shape {
+            return Some(Shape {
                 count,
                 closed: false,
             });
         }
         at = at + k + 1;
     }
-    Form::Wrong
+    None
 }
 
 // The form of a line after its first byte, which is any byte but a space.
-pub fn line_form(line: &[u8]) -> Form
+pub fn line_form(line: &[u8]) -> Option<Shape>
     ensures value { result ≡ form_from (form_of line.now) }
     ensures result_value { (form_refusal result ≡ unsaid 10 (form_of line.now)) × (form_count result ≡ length (said_by (form_of line.now)).literals) × (form_closes result ≡ (said_by (form_of line.now)).closed) }
 {
     if line.len() == 0 {
-        return Form::Wrong;
+        return None;
     }
     if line[0] == 32 {
-        return Form::Wrong;
+        return None;
     }
     if line.len() == 1 {
-        return Form::Good(Shape {
+        return Some(Shape {
             count: 0,
             closed: false,
         });
     }
     if line[1] != 32 {
-        return Form::Wrong;
+        return None;
     }
     words_form(&line[2..])
 }

@@ -10,7 +10,8 @@ use lib.ListN.{length, take, drop, length-append, length-drop, length-set, take-
 use lib.Seq.{take_all, take-nil, take-suc-set, take-append-le, set_out, drop-drop}
 use native.Mathlib.Numerals.{add-one}
 use Rattle.model.specs.declared.Reading.{Reading}
-use Rattle.model.specs.Lists.{those, each}
+use Rattle.std.specs.List.{flat_map}
+use Rattle.model.specs.Lists.{those}
 use Rattle.model.specs.Sheet.{lines_of, on_first}
 use Rattle.model.specs.Assignment.{line_read, values_after}
 use Rattle.model.specs.Demand.{fresh_reading, reading_after, values_after_all}
@@ -26,9 +27,9 @@ pub cut-append : (xs ys : List ℕ) (s : Cutting) → cut_bytes (xs ++ ys) s ≡
 cut-append [] ys s = refl
 cut-append (b ∷ xs) ys s = cut-append xs ys (cut_byte b s)
 
-pub cut-pieces : (ps : List (List ℕ)) (s : Cutting) → cut_pieces ps s ≡ cut_bytes (each (λ p. p) ps) s
+pub cut-pieces : (ps : List (List ℕ)) (s : Cutting) → cut_pieces ps s ≡ cut_bytes (flat_map (λ p. p) ps) s
 cut-pieces [] s = refl
-cut-pieces (p ∷ ps) s = cut-pieces ps (cut_bytes p s) ∙ sym (cut-append p (each (λ p. p) ps) s)
+cut-pieces (p ∷ ps) s = cut-pieces ps (cut_bytes p s) ∙ sym (cut-append p (flat_map (λ p. p) ps) s)
 
 -- ---- what is kept of the unfinished line l
 
@@ -237,7 +238,7 @@ all_said room ls (b ∷ bs) r v s h =
 
 module _ (ps : List (List ℕ)) (space values : List ℕ) where
   abbrev bytes : List ℕ
-  bytes = each (λ p. p) ps
+  bytes = flat_map (λ p. p) ps
 
   abbrev pieces : Cutting
   pieces = cut_pieces ps (cutting fresh_cut space values)

@@ -70,10 +70,10 @@ fn too_long(line: &[u8]) -> u32
     if line.len() == 0 {
         return 24;
     }
-    if line[0] == 99 {
+    if line[0] == b'c' {
         return 0;
     }
-    if line[0] == 115 {
+    if line[0] == b's' {
         return 0;
     }
     24
@@ -116,23 +116,15 @@ fn keep_byte(cut: Cut, space: &mut [u8], b: u8) -> Cut
     ensures value { result ≡ keep_byte (length space.old) cut }
     ensures space_after { space.new ≡ set space.old cut.held b }
 {
-    let reading = cut.reading;
     let held = cut.held;
     if held < space.len() {
         space[held] = b;
         return Cut {
-            reading,
-            number: cut.number,
             held: held + 1,
-            long: cut.long,
+            ..cut
         };
     }
-    Cut {
-        reading,
-        number: cut.number,
-        held,
-        long: true,
-    }
+    Cut { long: true, ..cut }
 }
 
 // A piece of the output, up to and with the first line that is refused. The start of space keeps the bytes of a line from piece to piece.
@@ -142,9 +134,8 @@ pub fn feed(cut: Cut, piece: &[u8], space: &mut [u8], values: &mut [u8]) -> Fed
     ensures values_after { values.new ≡ (feeding piece.now (cutting cut space.old values.old)).after.values }
 {
     let mut state = cut;
-    let mut i: usize = 0;
-    while i < piece.len() {
-        if piece[i] == 10 {
+    for (i, b) in piece.iter().enumerate() {
+        if *b == b'\n' {
             let line = state.number;
             let end = end_line(state, space, values);
             let next = end.cut;
@@ -158,14 +149,12 @@ pub fn feed(cut: Cut, piece: &[u8], space: &mut [u8], values: &mut [u8]) -> Fed
             }
             state = next;
         } else {
-            let more = keep_byte(state, space, piece[i]);
-            state = more;
+            state = keep_byte(state, space, *b);
         }
-        i += 1;
     }
     Fed {
         cut: state,
-        used: i,
+        used: piece.len(),
         refusal: 0,
         line: 0,
     }

@@ -18,10 +18,11 @@ use Rattle.model.specs.Lists.{stop}
 use Rattle.model.specs.Assignment.{words_of, word_value, is_said, variable, value_for, with_value, literals_refusal, with_values}
 use Rattle.model.proofs.Lists.{or-false, All, all_append, or_assoc}
 use Rattle.model.proofs.Solver.{Named, word-named}
-use Rattle.literals.specs.declared.Place.{Place}
-use Rattle.literals.specs.declared.Place.TheVariants.{Free, Above, Taken}
+use Rattle.std.specs.Prelude.{Result, Ok, Err}
+use Rattle.literals.specs.declared.Refusal.{Refusal}
+use Rattle.literals.specs.declared.Refusal.TheVariants.{Above, Taken}
 use Rattle.line_form.specs.Form.{word_length}
-use Rattle.literals.specs.Line.{if_names, named, words_refusal, names?, judged, new_place, place_refusal, Noted, noted_with}
+use Rattle.literals.specs.Line.{if_names, named, words_refusal, names?, judged, new_place, refusal_of, Noted, noted_with}
 use Rattle.line_form.proofs.Words.{k-le, word_size, is-more, first-last, first_more, first_some}
 use Rattle.line_form.proofs.Forms.{is_names}
 use Rattle.literals.proofs.Named.{named-names, named_end, all_named, all-names, all_end, words-bad, words-end, words-good, is_free, place_bad, place-free, noted-next}
@@ -160,22 +161,22 @@ module _ {s values flags : List ℕ} {m at count : ℕ} (h : Looking s values fl
         → literals_refusal (named (take m (words_of s))) values ≡ judged (take count all) (l ∷ named ws) values
     step ws q = h.same ∙ ap (λ (ls : List Literal). judged (take count all) ls values) (ap named q ∙ named-names word ws l is)
 
-    module _ {place : Place} (new : place ≡ new_place (take count (named (words_of s))) v values) where
+    module _ {place : Result ℕ Refusal} (new : place ≡ new_place (take count (named (words_of s))) v values) where
       new_is : place
-          ≡ cond (ltb (length values) (variable l)) Above
-          (cond (is_said (get_or values (variable l - 1) 0)) Taken
-          (cond (names? (variable l) (take count all)) Taken (Free (variable l - 1))))
+          ≡ cond (ltb (length values) (variable l)) (Err Above)
+          (cond (is_said (get_or values (variable l - 1) 0)) (Err Taken)
+          (cond (names? (variable l) (take count all)) (Err Taken) (Ok (variable l - 1))))
       unfolding new_place
       new_is = new ∙ rw p
 
-      pub judge-bad : is_free place ≡ false → place_refusal place ≡ words_refusal (take m (words_of s)) values
+      pub judge-bad : is_free place ≡ false → refusal_of place ≡ words_refusal (take m (words_of s)) values
       judge-bad f =
           let w = first_some s at k h.place e m count left in
           let x = judged (take count all ++ (l ∷ [])) (named w.0) values in
           let b = place_bad place (variable l - 1) x (ltb (length values) (variable l)) (is_said (get_or values (variable l - 1) 0)) (names? (variable l) (take count all)) new_is f in
-          sym (words-bad (take m (words_of s)) values (place_refusal place) (step w.0 w.1 ∙ b.0) b.1)
+          sym (words-bad (take m (words_of s)) values (refusal_of place) (step w.0 w.1 ∙ b.0) b.1)
 
-      module _ {i : ℕ} (free : place ≡ Free i) where
+      module _ {i : ℕ} (free : place ≡ Ok i) where
         good : (ws : List (List ℕ)) → take (m - count) (words_of (drop at s)) ≡ word ∷ ws
             → literals_refusal (named (take m (words_of s))) values ≡ judged (take count all ++ (l ∷ [])) (named ws) values
         good ws q =

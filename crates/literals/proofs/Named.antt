@@ -19,12 +19,13 @@ use Rattle.model.specs.Assignment.{words_of, word_value, is_said, variable, valu
 use Rattle.model.proofs.Lists.{or-false, any_append}
 use Rattle.model.proofs.Words.{has-zero}
 use Rattle.model.proofs.Flags.{same_test, flag-set}
-use Rattle.literals.specs.declared.Place.{Place}
-use Rattle.literals.specs.declared.Place.TheVariants.{Free, Above, Taken}
+use Rattle.std.specs.Prelude.{Result, Ok, Err}
+use Rattle.literals.specs.declared.Refusal.{Refusal}
+use Rattle.literals.specs.declared.Refusal.TheVariants.{NoLiteral, Above, Taken}
 use Rattle.line_form.proofs.Words.{k-le, word_size, is_last, is-more, is_some, first-last, first_more, first_some}
 use Rattle.line_form.proofs.Forms.{is_names}
 use Rattle.line_form.specs.Form.{word_length}
-use Rattle.literals.specs.Line.{if_names, named, word_then, words_refusal, place_refusal, names?, Noted, with_flag, noted_with}
+use Rattle.literals.specs.Line.{refusal_number, if_names, named, word_then, words_refusal, refusal_of, names?, Noted, with_flag, noted_with}
 
 -- ---- the literals of words
 
@@ -113,31 +114,30 @@ words-counted ws values =
 
 -- ---- places
 
-abbrev pub is_free : Place → Bool
-is_free (Free i) = true
-is_free Above = false
-is_free Taken = false
+-- a refusal has a number
+pub refuses : (r : Refusal) → refusal_number r ≡ 0 → ⊥
+refuses NoLiteral z = omega (arith, z)
+refuses Above z = omega (arith, z)
+refuses Taken z = omega (arith, z)
 
--- the else of `let Place::Free(i) = .. else`
-pub not_free : (x : Place) → ((v : _) → x ≡ Free v → ⊥) → is_free x ≡ false
-not_free (Free i) k = absurd (k i refl)
-not_free Above k = refl
-not_free Taken k = refl
+abbrev pub is_free : Result ℕ Refusal → Bool
+is_free (Ok i) = true
+is_free (Err r) = false
 
-pub place_bad : (p : Place) (i x : ℕ) (a b c : Bool) → p ≡ cond a Above (cond b Taken (cond c Taken (Free i))) → is_free p ≡ false
-    → (stop a 11 (stop b 12 (stop c 12 x)) ≡ place_refusal p) × (place_refusal p ≡ 0 → ⊥)
-place_bad p i x true b c e f = let q = ap place_refusal e in (sym q, λ z. omega (arith, q, z))
-place_bad p i x false true c e f = let q = ap place_refusal e in (sym q, λ z. omega (arith, q, z))
-place_bad p i x false false true e f = let q = ap place_refusal e in (sym q, λ z. omega (arith, q, z))
+pub place_bad : (p : Result ℕ Refusal) (i x : ℕ) (a b c : Bool) → p ≡ cond a (Err Above) (cond b (Err Taken) (cond c (Err Taken) (Ok i))) → is_free p ≡ false
+    → (stop a 11 (stop b 12 (stop c 12 x)) ≡ refusal_of p) × (refusal_of p ≡ 0 → ⊥)
+place_bad p i x true b c e f = let q = ap refusal_of e in (sym q, λ z. omega (arith, q, z))
+place_bad p i x false true c e f = let q = ap refusal_of e in (sym q, λ z. omega (arith, q, z))
+place_bad p i x false false true e f = let q = ap refusal_of e in (sym q, λ z. omega (arith, q, z))
 place_bad p i x false false false e f = let z : ◌≡◌ {A = ℕ} 0 1 = contradiction (sym (ap is_free e) ∙ f) in absurd (omega arith)
   where
     contradiction : true ≡ false → ◌≡◌ {A = ℕ} 0 1
     contradiction q = cc
 
-pub place-free : (i j : ℕ) (a b c : Bool) → Free i ≡ cond a Above (cond b Taken (cond c Taken (Free j))) → (a ≡ false) × (b ≡ false) × (c ≡ false) × (i ≡ j)
-place-free i j true b c e = let q : ◌≡◌ {A = ℕ} 0 11 = ap place_refusal e in absurd (omega arith)
-place-free i j false true c e = let q : ◌≡◌ {A = ℕ} 0 12 = ap place_refusal e in absurd (omega arith)
-place-free i j false false true e = let q : ◌≡◌ {A = ℕ} 0 12 = ap place_refusal e in absurd (omega arith)
+pub place-free : (i j : ℕ) (a b c : Bool) → Ok i ≡ cond a (Err Above) (cond b (Err Taken) (cond c (Err Taken) (Ok j))) → (a ≡ false) × (b ≡ false) × (c ≡ false) × (i ≡ j)
+place-free i j true b c e = let q : ◌≡◌ {A = ℕ} 0 11 = ap refusal_of e in absurd (omega arith)
+place-free i j false true c e = let q : ◌≡◌ {A = ℕ} 0 12 = ap refusal_of e in absurd (omega arith)
+place-free i j false false true e = let q : ◌≡◌ {A = ℕ} 0 12 = ap refusal_of e in absurd (omega arith)
 place-free i j false false false e = let q : i ≡ j = cc in (refl, refl, refl, q)
 
 -- ---- the first of literals that bring no refusal

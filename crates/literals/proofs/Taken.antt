@@ -14,10 +14,11 @@ use Rattle.model.specs.declared.Literal.{Literal}
 use Rattle.model.specs.declared.Word.TheVariants.{Names}
 use Rattle.model.specs.Assignment.{words_of, word_value, is_said, variable, value_for, with_value, literals_refusal, with_values}
 use Rattle.model.proofs.Solver.{word-named}
-use Rattle.literals.specs.declared.Place.{Place}
-use Rattle.literals.specs.declared.Place.TheVariants.{Free, Above, Taken}
+use Rattle.std.specs.Prelude.{Result, Ok, Err}
+use Rattle.literals.specs.declared.Refusal.{Refusal}
+use Rattle.literals.specs.declared.Refusal.TheVariants.{Above, Taken}
 use Rattle.line_form.specs.Form.{word_length}
-use Rattle.literals.specs.Line.{named, words_refusal, place_of, place_refusal, PlacesBelow, put_back, taken_by}
+use Rattle.literals.specs.Line.{named, words_refusal, place_of, refusal_of, PlacesBelow, put_back, taken_by}
 use Rattle.line_form.proofs.Words.{k-le, word_size, first-last, first_more, first_some}
 use Rattle.line_form.proofs.Forms.{is_names}
 use Rattle.literals.proofs.Named.{named-names, named_end, all_named, all-names, all_end, words-bad, words-end, words-good, is_free, place_bad, place-free}
@@ -147,20 +148,20 @@ module _ {s start values places bytes : List ℕ} {m at count : ℕ} (h : Taking
           → literals_refusal (named (take m (words_of s))) start ≡ literals_refusal (l ∷ named ws) values
       step ws q = h.same ∙ ap (λ (ls : List Literal). literals_refusal ls values) (here ws q)
 
-      module _ {place : Place} (new : place ≡ place_of v values) where
-        new_is : place ≡ cond (ltb (length values) (variable l)) Above (cond (is_said (get_or values (variable l - 1) 0)) Taken (Free (variable l - 1)))
+      module _ {place : Result ℕ Refusal} (new : place ≡ place_of v values) where
+        new_is : place ≡ cond (ltb (length values) (variable l)) (Err Above) (cond (is_said (get_or values (variable l - 1) 0)) (Err Taken) (Ok (variable l - 1)))
         unfolding place_of
         new_is = new ∙ rw p
 
-        pub take-bad : is_free place ≡ false → (x : ℕ) → x ≡ place_refusal place → (after : List ℕ) → after ≡ put_back count places bytes values
+        pub take-bad : is_free place ≡ false → (x : ℕ) → x ≡ refusal_of place → (after : List ℕ) → after ≡ put_back count places bytes values
             → (x ≡ words_refusal (take m (words_of s)) start) × (after ≡ taken_by (take m (words_of s)) start)
         take-bad f x q after r =
             let w = first_some s at k h.place e m count left in
             let b = place_bad place (variable l - 1) (literals_refusal (named w.0) (with_value l values)) (ltb (length values) (variable l)) (is_said (get_or values (variable l - 1) 0)) false new_is f in
-            let a = refused (place_refusal place) (words-bad (take m (words_of s)) start (place_refusal place) (step w.0 w.1 ∙ b.0) b.1) b.1 after r in
+            let a = refused (refusal_of place) (words-bad (take m (words_of s)) start (refusal_of place) (step w.0 w.1 ∙ b.0) b.1) b.1 after r in
             (q ∙ a.0, a.1)
 
-        module _ {i : ℕ} (free : place ≡ Free i) where
+        module _ {i : ℕ} (free : place ≡ Ok i) where
           facts : (ltb (length values) (variable l) ≡ false) × (is_said (get_or values (variable l - 1) 0) ≡ false) × (false ≡ false) × (i ≡ variable l - 1)
           facts = place-free i (variable l - 1) (ltb (length values) (variable l)) (is_said (get_or values (variable l - 1) 0)) false (sym free ∙ new_is)
 

@@ -1,14 +1,16 @@
 -- What the line reader's helpers answer, in the definitions' terms.
 use Rattle.std.specs.Prelude.{◌≡◌, ℕ, zero, suc, ◌-◌, ◌/◌, ◌%◌, ◌^◌, ◌<◌, Bool, cond, List, [], ◌∷◌, ◌++◌, ltb, eqb, length, get_or, set}
+use Rattle.std.specs.Prelude.{Result, Ok, Err}
 use Rattle.std.specs.Int.Bits.{bit_or}
 use Rattle.model.specs.declared.Literal.{Literal}
 use Rattle.model.specs.declared.Word.{Word}
 use Rattle.model.specs.declared.Word.TheVariants.{Names, Closing, Malformed}
-use Rattle.model.specs.Lists.{any, stop}
+use Rattle.std.specs.List.{list_any}
+use Rattle.model.specs.Lists.{stop}
 use Rattle.model.specs.Words.{has}
 use Rattle.model.specs.Assignment.{word_value, is_said, variable, with_value, with_values}
-use Rattle.literals.specs.declared.Place.{Place}
-use Rattle.literals.specs.declared.Place.TheVariants.{Free, Above, Taken}
+use Rattle.literals.specs.declared.Refusal.{Refusal}
+use Rattle.literals.specs.declared.Refusal.TheVariants.{NoLiteral, Above, Taken}
 
 -- ---- the words of a line
 
@@ -36,7 +38,7 @@ words_refusal (w ∷ ws) values = word_then (word_value w) values (words_refusal
 
 -- some literal names variable v
 abbrev pub names? : ℕ → List Literal → Bool
-names? v ls = any (λ k. eqb (variable k) v) ls
+names? v ls = list_any (λ k. eqb (variable k) v) ls
 
 -- 11 and 12 of literals, after those that the line has named so far
 abbrev pub judged : List Literal → List Literal → List ℕ → ℕ
@@ -48,23 +50,27 @@ judged seen (l ∷ ls) values =
 
 -- ---- the place of a variable: "The lent marks, one byte per variable"
 
-unfoldable pub place_of : ℕ → List ℕ → Place
+unfoldable pub place_of : ℕ → List ℕ → Result ℕ Refusal
 place_of v values =
-    cond (ltb (length values) v) Above
-    (cond (is_said (get_or values (v - 1) 0)) Taken (Free (v - 1)))
+    cond (ltb (length values) v) (Err Above)
+    (cond (is_said (get_or values (v - 1) 0)) (Err Taken) (Ok (v - 1)))
 
 -- where the line has named literals before
-unfoldable pub new_place : List Literal → ℕ → List ℕ → Place
+unfoldable pub new_place : List Literal → ℕ → List ℕ → Result ℕ Refusal
 new_place seen v values =
-    cond (ltb (length values) v) Above
-    (cond (is_said (get_or values (v - 1) 0)) Taken
-    (cond (names? v seen) Taken (Free (v - 1))))
+    cond (ltb (length values) v) (Err Above)
+    (cond (is_said (get_or values (v - 1) 0)) (Err Taken)
+    (cond (names? v seen) (Err Taken) (Ok (v - 1))))
 
--- "a definition gives this paper's number and values for each of its cases": of a place, refusals 11 and 12
-abbrev pub place_refusal : Place → ℕ
-place_refusal (Free i) = 0
-place_refusal Above = 11
-place_refusal Taken = 12
+-- "a definition gives this paper's number and values for each of its cases": of a refusal 10, 11 and 12, and 0 where there is none
+abbrev pub refusal_number : Refusal → ℕ
+refusal_number NoLiteral = 10
+refusal_number Above = 11
+refusal_number Taken = 12
+
+abbrev pub refusal_of : {A : Type 0} → Result A Refusal → ℕ
+refusal_of (Ok x) = 0
+refusal_of (Err r) = refusal_number r
 
 -- "11 variable above the marks' length. 12 variable said already, earlier in the line included."
 unfoldable pub literal_refusal : ℕ → List Literal → List ℕ → ℕ

@@ -3,19 +3,32 @@
 
 ghost use Rattle.std.specs.Prelude.{◌≡◌, [], ◌≤◌, length, take};
 ghost use Rattle.model.specs.Assignment.{words_of, is_said, variable, value_for, with_values};
-ghost use Rattle.literals.specs.Line.{named, names?, Noted, noted_with, place_of, new_place, place_refusal, literal_refusal, PlacesBelow, put_back, words_refusal, taken_by};
+ghost use Rattle.literals.specs.Line.{named, names?, Noted, noted_with, place_of, new_place, refusal_number, refusal_of, literal_refusal, PlacesBelow, put_back, words_refusal, taken_by};
 
 use model::{Literal, Word};
 
-// The place of a variable's value: where it is free, or above the values' length, or holding a value already.
-#[derive(Clone, Copy)]
-enum Place {
-    Free(usize),
+// Why a word is refused: it is no literal, or its variable is above the values' length, or has a value already.
+#[derive(Clone, Copy, PartialEq, Eq)]
+pub enum Refusal {
+    NoLiteral,
     Above,
     Taken,
 }
 
+impl Refusal {
+    pub fn number(self) -> u32
+        ensures { result ≡ refusal_number self }
+    {
+        match self {
+            Refusal::NoLiteral => 10,
+            Refusal::Above => 11,
+            Refusal::Taken => 12,
+        }
+    }
+}
+
 // Whether a byte says a value.
+#[tactic(auto, unfolding(model::specs::Assignment::is_said))]
 fn is_said(b: u8) -> bool
     ensures { result ≡ is_said b }
 {
@@ -44,29 +57,19 @@ fn value_for(l: Literal) -> u8
 }
 
 // The place of variable v in the values.
-fn place_of(v: u32, values: &[u8]) -> Place
+fn place_of(v: u32, values: &[u8]) -> Result<usize, Refusal>
     requires { 1 ≤ v }
     ensures value { result ≡ place_of v values.now }
-    ensures result_value { place_refusal result ≡ literal_refusal v [] values.now }
+    ensures result_value { refusal_of result ≡ literal_refusal v [] values.now }
 {
     if values.len() < v as usize {
-        return Place::Above;
+        return Err(Refusal::Above);
     }
     let i = (v - 1) as usize;
     if is_said(values[i]) {
-        return Place::Taken;
+        return Err(Refusal::Taken);
     }
-    Place::Free(i)
-}
-
-fn place_refusal(p: Place) -> u32
-    ensures { result ≡ place_refusal p }
-{
-    match p {
-        Place::Free(_) => 0,
-        Place::Above => 11,
-        Place::Taken => 12,
-    }
+    Ok(i)
 }
 
 // Writes the literals of the first m words of s. They were judged: each word is a literal, and the else is never reached.
@@ -150,25 +153,28 @@ fn note(flags: &mut [u64; WORDS], v: u32)
 }
 
 // The place of variable v in the values, where a line has named `count` literals before it.
-fn new_place(flags: &[u64; WORDS], s: &[u8], count: usize, v: u32, values: &[u8]) -> Place
+fn new_place(
+    flags: &[u64; WORDS],
+    s: &[u8],
+    count: usize,
+    v: u32,
+    values: &[u8],
+) -> Result<usize, Refusal>
     requires noted { Noted flags.now (take count (named (words_of s.now))) }
     requires le_v { 1 ≤ v }
     ensures value { result ≡ new_place (take count (named (words_of s.now))) v values.now }
-    ensures result_value { place_refusal result ≡ literal_refusal v (take count (named (words_of s.now))) values.now }
+    ensures result_value { refusal_of result ≡ literal_refusal v (take count (named (words_of s.now))) values.now }
 {
-    let p = place_of(v, values);
-    let Place::Free(_) = p else {
-        return p;
-    };
+    let i = place_of(v, values)?;
     if is_seen(flags, s, count, v) {
-        return Place::Taken;
+        return Err(Refusal::Taken);
     }
-    p
+    Ok(i)
 }
 
-// Refusals 10, 11 and 12 of the first m words of s.
-fn words_refusal(s: &[u8], m: usize, values: &[u8]) -> u32
-    ensures { result ≡ words_refusal (take m (words_of s.now)) values.now }
+// Whether one of the first m words of s is refused.
+fn judge(s: &[u8], m: usize, values: &[u8]) -> Result<(), Refusal>
+    ensures { refusal_of result ≡ words_refusal (take m (words_of s.now)) values.now }
 {
     let n = s.len();
     let mut flags = [0u64; WORDS];
@@ -178,21 +184,18 @@ fn words_refusal(s: &[u8], m: usize, values: &[u8]) -> u32
         let rest = &s[at..];
         let k = line_form::word_length(rest);
         let Word::Names(l) = line_form::word_value(&rest[..k]) else {
-            return 10;
+            return Err(Refusal::NoLiteral);
         };
         let v = variable_of(l);
-        let p = new_place(&flags, s, count, v, values);
-        let Place::Free(_) = p else {
-            return place_refusal(p);
-        };
+        new_place(&flags, s, count, v, values)?;
         note(&mut flags, v);
         count += 1;
         if at + k == n {
-            return 0;
+            return Ok(());
         }
         at = at + k + 1;
     }
-    0
+    Ok(())
 }
 
 // Words of up to this many bytes are judged and written in one pass; the places that it writes, and the bytes that stood there, are kept.
@@ -207,18 +210,15 @@ fn put_back(places: &[u32; KEPT], bytes: &[u8; KEPT], count: usize, values: &mut
     requires places_below { PlacesBelow places.now count (length values.old) }
     ensures { values.new ≡ put_back count places.now bytes.now values.old }
 {
-    let mut i = count;
-    while 0 < i {
-        i -= 1;
-        let p = places[i] as usize;
-        values[p] = bytes[i];
+    for i in (0..count).rev() {
+        values[places[i] as usize] = bytes[i];
     }
 }
 
-// Refusals 10, 11 and 12 of the first m words of s, at most SHORT bytes. Where there is none, their literals are written.
-fn take_short(s: &[u8], m: usize, values: &mut [u8]) -> u32
+// Whether one of the first m words of s, at most SHORT bytes, is refused. Where none is, their literals are written.
+fn take_short(s: &[u8], m: usize, values: &mut [u8]) -> Result<(), Refusal>
     requires { length s.now ≤ 128 }
-    ensures value { result ≡ words_refusal (take m (words_of s.now)) values.old }
+    ensures value { refusal_of result ≡ words_refusal (take m (words_of s.now)) values.old }
     ensures values_after { values.new ≡ taken_by (take m (words_of s.now)) values.old }
 {
     let n = s.len();
@@ -231,38 +231,38 @@ fn take_short(s: &[u8], m: usize, values: &mut [u8]) -> u32
         let k = line_form::word_length(rest);
         let Word::Names(l) = line_form::word_value(&rest[..k]) else {
             put_back(&places, &bytes, count, values);
-            return 10;
+            return Err(Refusal::NoLiteral);
         };
         let v = variable_of(l);
         let p = place_of(v, values);
-        let Place::Free(i) = p else {
-            put_back(&places, &bytes, count, values);
-            return place_refusal(p);
+        let i = match p {
+            Ok(i) => i,
+            Err(r) => {
+                put_back(&places, &bytes, count, values);
+                return Err(r);
+            }
         };
         places[count] = v - 1;
         bytes[count] = values[i];
         values[i] = value_for(l);
         count += 1;
         if at + k == n {
-            return 0;
+            return Ok(());
         }
         at = at + k + 1;
     }
-    0
+    Ok(())
 }
 
 // The same of words of any length.
-pub fn take_literals(s: &[u8], m: usize, values: &mut [u8]) -> u32
-    ensures value { result ≡ words_refusal (take m (words_of s.now)) values.old }
+pub fn take_literals(s: &[u8], m: usize, values: &mut [u8]) -> Result<(), Refusal>
+    ensures value { refusal_of result ≡ words_refusal (take m (words_of s.now)) values.old }
     ensures values_after { values.new ≡ taken_by (take m (words_of s.now)) values.old }
 {
     if s.len() <= SHORT {
         return take_short(s, m, values);
     }
-    let bad = words_refusal(s, m, values);
-    if bad != 0 {
-        return bad;
-    }
+    judge(s, m, values)?;
     write_literals(s, m, values);
-    0
+    Ok(())
 }

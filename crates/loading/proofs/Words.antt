@@ -2,8 +2,7 @@
 use Rattle.std.proofs.Common.{◌≡◌, ℕ, suc, ◌+◌, ◌-◌, ◌*◌, ◌<◌, ◌≤◌, Bool, true, false, cond, ◌||◌, eqb, List, [], ◌∷◌, ◌++◌, length, get_or, take, drop, sym, refl, ap, ◌∙◌, arith, length-drop, drop_of_length-le, take_all, drop-cons, eq-eqb, ne_eqb, le-leb}
 use Rattle.model.specs.declared.Literal.{Literal}
 use Rattle.model.specs.declared.Literal.TheVariants.{Pos, Neg}
-use Rattle.model.specs.declared.Digits.{Digits}
-use Rattle.model.specs.declared.Digits.TheVariants.{Number, Bad}
+use Rattle.std.specs.Prelude.{Option, None, Some}
 use Rattle.model.specs.Sheet.{short_number}
 use Rattle.model.specs.Assignment.{variable}
 use Rattle.model.specs.Text.{decimal}
@@ -61,8 +60,7 @@ unfolding spelled
 spelled-some (Pos v) = decimal-some v
 spelled-some (Neg v) = omega arith
 
-decimal-short : (v : ℕ) → v < 100000 → short_number (decimal v) ≡ Number v
-unfolding short_number
+decimal-short : (v : ℕ) → v < 100000 → short_number (decimal v) ≡ Some v
 decimal-short v h = let s : length (decimal v) ≤ 9 = omega (arith, decimal-bound 4 v h) in rw (le-leb (length (decimal v)) 9 s, decimal-reads v)
 
 first-digit : (l : List ℕ) → 0 < length l → All (λ b. (48 ≤ b) × (b ≤ 57)) l → get_or l 0 0 ≡ 45 → ⊥
@@ -70,24 +68,23 @@ first-digit [] s h e = omega arith
 first-digit (b ∷ l) s h e = let k = h.0.0 in omega arith
 
 -- the number after a minus sign, and without one
-pub negative : (l : Literal) → Small l → get_or (spelled l) 0 0 ≡ 45 → (short_number (drop 1 (spelled l)) ≡ Number (variable l)) × (word_of l ≡ 2 * variable l + 1)
+pub negative : (l : Literal) → Small l → get_or (spelled l) 0 0 ≡ 45 → (short_number (drop 1 (spelled l)) ≡ Some (variable l)) × (word_of l ≡ 2 * variable l + 1)
 unfolding spelled word_of
 negative (Pos v) s e = absurd (first-digit (decimal v) (decimal-some v) (decimal-digits v) e)
 negative (Neg v) s e = (decimal-short v s.few, refl)
 
-pub positive : (l : Literal) → Small l → (get_or (spelled l) 0 0 ≡ 45 → ⊥) → (short_number (spelled l) ≡ Number (variable l)) × (word_of l ≡ 2 * variable l)
+pub positive : (l : Literal) → Small l → (get_or (spelled l) 0 0 ≡ 45 → ⊥) → (short_number (spelled l) ≡ Some (variable l)) × (word_of l ≡ 2 * variable l)
 unfolding spelled word_of
 positive (Pos v) s f = (decimal-short v s.few, refl)
 positive (Neg v) s f = absurd (f refl)
 
-pub zero_number : short_number (48 ∷ []) ≡ Number 0
-unfolding short_number
+pub zero_number : short_number (48 ∷ []) ≡ Some 0
 zero_number = refl
 
-pub same_number : {x : Digits} {v w : ℕ} → x ≡ Number v → x ≡ Number w → v ≡ w
+pub same_number : {x : Option ℕ} {v w : ℕ} → x ≡ Some v → x ≡ Some w → v ≡ w
 same_number p q = cc
 
-pub not_bad : {x : Digits} {v : ℕ} → x ≡ Number v → x ≡ Bad → ⊥
+pub not_bad : {x : Option ℕ} {v : ℕ} → x ≡ Some v → x ≡ None → ⊥
 not_bad p q = let z : ◌≡◌ {A = ℕ} 0 1 = cc in omega arith
 
 -- ---- reading a word
@@ -99,8 +96,8 @@ module _ (w : List ℕ) where
     zero = λ e. absurd (omega (arith, z, ap length e));
   }
 
-  module _ (e : get_or w 0 0 ≡ 45) (x : Digits) (q : x ≡ short_number (drop 1 w)) where
-    minus_is : (l : Literal) → Small l → w ≡ spelled l → (x ≡ Number (variable l)) × (word_of l ≡ 2 * variable l + 1)
+  module _ (e : get_or w 0 0 ≡ 45) (x : Option ℕ) (q : x ≡ short_number (drop 1 w)) where
+    minus_is : (l : Literal) → Small l → w ≡ spelled l → (x ≡ Some (variable l)) × (word_of l ≡ 2 * variable l + 1)
     minus_is l s p =
         let n = negative l s (ap (λ (y : List ℕ). get_or y 0 0) (sym p) ∙ e) in
         (q ∙ ap (λ (y : List ℕ). short_number (drop 1 y)) p ∙ n.0, n.1)
@@ -108,37 +105,37 @@ module _ (w : List ℕ) where
     no_zero : w ≡ 48 ∷ [] → ⊥
     no_zero p = omega (arith, e, ap (λ (y : List ℕ). get_or y 0 0) p)
 
-    pub minus-bad : x ≡ Bad → Read w Wrong
+    pub minus-bad : x ≡ None → Read w Wrong
     minus-bad b = record { literal = λ l s p. absurd (not_bad (minus_is l s p).0 b); zero = λ p. absurd (no_zero p) }
 
-    pub minus-large : (v : ℕ) → x ≡ Number v → 1000000 < v → Read w Wrong
+    pub minus-large : (v : ℕ) → x ≡ Some v → 1000000 < v → Read w Wrong
     minus-large v n h = record { literal = λ l s p. absurd (omega (arith, s.few, same_number (minus_is l s p).0 n)); zero = λ p. absurd (no_zero p) }
 
-    pub minus-word : (v : ℕ) → x ≡ Number v → Read w (Word (2 * v + 1))
+    pub minus-word : (v : ℕ) → x ≡ Some v → Read w (Word (2 * v + 1))
     minus-word v n = record {
       literal = λ l s p. ap Word (ap (λ (k : ℕ). 2 * k + 1) (sym (same_number (minus_is l s p).0 n)) ∙ sym (minus_is l s p).1);
       zero = λ p. absurd (no_zero p);
     }
 
-  module _ (f : get_or w 0 0 ≡ 45 → ⊥) (x : Digits) (q : x ≡ short_number w) where
-    plain-is : (l : Literal) → Small l → w ≡ spelled l → (x ≡ Number (variable l)) × (word_of l ≡ 2 * variable l)
+  module _ (f : get_or w 0 0 ≡ 45 → ⊥) (x : Option ℕ) (q : x ≡ short_number w) where
+    plain-is : (l : Literal) → Small l → w ≡ spelled l → (x ≡ Some (variable l)) × (word_of l ≡ 2 * variable l)
     plain-is l s p =
         let n = positive l s (λ z. f (ap (λ (y : List ℕ). get_or y 0 0) p ∙ z)) in
         (q ∙ ap short_number p ∙ n.0, n.1)
 
-    is_zero : w ≡ 48 ∷ [] → x ≡ Number 0
+    is_zero : w ≡ 48 ∷ [] → x ≡ Some 0
     is_zero p = q ∙ ap short_number p ∙ zero_number
 
-    pub plain-bad : x ≡ Bad → Read w Wrong
+    pub plain-bad : x ≡ None → Read w Wrong
     plain-bad b = record { literal = λ l s p. absurd (not_bad (plain-is l s p).0 b); zero = λ p. absurd (not_bad (is_zero p) b) }
 
-    pub plain-large : (v : ℕ) → x ≡ Number v → 1000000 < v → Read w Wrong
+    pub plain-large : (v : ℕ) → x ≡ Some v → 1000000 < v → Read w Wrong
     plain-large v n h = record { literal = λ l s p. absurd (omega (arith, s.few, same_number (plain-is l s p).0 n)); zero = λ p. absurd (omega (arith, same_number (is_zero p) n)) }
 
-    pub plain_end : (v : ℕ) → x ≡ Number v → v ≡ 0 → Read w End
+    pub plain_end : (v : ℕ) → x ≡ Some v → v ≡ 0 → Read w End
     plain_end v n z = record { literal = λ l s p. absurd (omega (arith, s.some, same_number (plain-is l s p).0 n)); zero = λ p. refl }
 
-    pub plain_word : (v : ℕ) → x ≡ Number v → (v ≡ 0 → ⊥) → Read w (Word (2 * v))
+    pub plain_word : (v : ℕ) → x ≡ Some v → (v ≡ 0 → ⊥) → Read w (Word (2 * v))
     plain_word v n z = record {
       literal = λ l s p. ap Word (ap (λ (k : ℕ). 2 * k) (sym (same_number (plain-is l s p).0 n)) ∙ sym (plain-is l s p).1);
       zero = λ p. absurd (z (sym (same_number (is_zero p) n)));

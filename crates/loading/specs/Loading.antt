@@ -1,8 +1,8 @@
 -- The formula's clauses, read back from the text of its blocks.
-use Rattle.std.specs.Prelude.{◌≡◌, ℕ, suc, ◌+◌, ◌*◌, ◌<◌, ◌≤◌, Bool, false, cond, ◌||◌, T, List, [], ◌∷◌, ◌==◌}
+use Rattle.std.specs.Prelude.{None, ◌≡◌, ℕ, suc, ◌+◌, ◌*◌, ◌<◌, ◌≤◌, Bool, false, cond, ◌||◌, T, List, [], ◌∷◌, ◌==◌}
 use Rattle.model.specs.declared.Literal.{Literal}
 use Rattle.model.specs.declared.Literal.TheVariants.{Pos, Neg}
-use Rattle.model.specs.Lists.{every, each}
+use Rattle.std.specs.List.{list_all, flat_map}
 use Rattle.model.specs.Assignment.{variable}
 use Rattle.model.specs.Text.{decimal, clause_text}
 use Rattle.model.specs.Close.{clause_true}
@@ -50,11 +50,11 @@ Gives a End s store r store' = begun_true a r.top r.at store' ≡ false
 
 pub record Takes (a : List Bool) (p : Piece) (s : State) (store : List ℕ) (r : State) (store' index' marks' : List ℕ) : Type 0 where
   pub holds : Holds a r store' index' marks'
-  pub before : r.refusal ≡ 0 → s.refusal ≡ 0
-  pub gives : r.refusal ≡ 0 → Gives a p s store r store'
+  pub before : r.refusal ≡ None → s.refusal ≡ None
+  pub gives : r.refusal ≡ None → Gives a p s store r store'
 
 -- the text of clauses that are true
 pub record Loads (a : List Bool) (cs : List (List Literal)) (text : List ℕ) : Type 0 where
-  pub is : text ≡ each clause_text cs
+  pub is : text ≡ flat_map clause_text cs
   pub small : All (All Small) cs
-  pub true : T (every (clause_true a) cs)
+  pub true : T (list_all (clause_true a) cs)

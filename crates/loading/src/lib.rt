@@ -1,13 +1,12 @@
 // The formula's clauses are stored, as the block writer wrote them: its own text is read back word by word.
 #![tactic(auto)]
 
-ghost use Rattle.std.specs.Prelude.{◌≡◌, ◌≤◌, Bool, List, length};
+ghost use Rattle.std.specs.Prelude.{None, ◌≡◌, ◌≤◌, Bool, List, length};
 ghost use Rattle.model.specs.declared.Literal.{Literal};
 ghost use Rattle.refutation.specs.Sound.{Holds};
 ghost use Rattle.loading.specs.Loading.{word_end, Read, Needs, Takes, Loads};
 
-use model::Digits;
-use refutation::State;
+use refutation::{Reason, State};
 
 // What a word of the listing is: a literal as a word of the store, or a clause's closing 0.
 #[derive(Clone, Copy)]
@@ -24,26 +23,13 @@ pub struct Loaded {
     pub id: u32,
 }
 
-impl Loaded {
-    // the reason to refuse where a block does not fit in the lent text
-    pub const NO_ROOM_FOR_A_BLOCK: u32 = 11;
-}
-
 fn word_end(s: &[u8]) -> usize
     ensures upper_bound { result ≤ length s.now }
     ensures value { result ≡ word_end s.now }
 {
-    let mut i: usize = 0;
-    while i < s.len() {
-        if s[i] == 32 {
-            return i;
-        }
-        if s[i] == 10 {
-            return i;
-        }
-        i += 1;
-    }
-    i
+    s.iter()
+        .position(|b| *b == b' ' || *b == b'\n')
+        .unwrap_or(s.len())
 }
 
 fn read_word(w: &[u8]) -> Piece
@@ -53,7 +39,7 @@ fn read_word(w: &[u8]) -> Piece
         return Piece::Wrong;
     }
     if w[0] == 45 {
-        let Digits::Number(v) = model::decimal(&w[1..]) else {
+        let Some(v) = model::decimal(&w[1..]) else {
             return Piece::Wrong;
         };
         if 1000000 < v {
@@ -61,7 +47,7 @@ fn read_word(w: &[u8]) -> Piece
         }
         return Piece::Word(2 * v + 1);
     }
-    let Digits::Number(v) = model::decimal(w) else {
+    let Some(v) = model::decimal(w) else {
         return Piece::Wrong;
     };
     if v == 0 {
@@ -80,16 +66,16 @@ fn take_piece(
     index: &mut [u32],
     marks: &mut [u32],
 ) -> Loaded
-    ensures { (a : List Bool) → Holds a q.state store.old index.old marks.old → (q.state.refusal ≡ 0 → Needs a p q.state store.old) → Takes a p q.state store.old result.state store.new index.new marks.new }
+    ensures { (a : List Bool) → Holds a q.state store.old index.old marks.old → (q.state.refusal ≡ None → Needs a p q.state store.old) → Takes a p q.state store.old result.state store.new index.new marks.new }
 {
     let s = q.state;
     let id = q.id;
-    if s.refusal != 0 {
+    if s.refusal.is_some() {
         return q;
     }
     match p {
         Piece::Wrong => {
-            let state = refutation::refuse(s, Loaded::NO_ROOM_FOR_A_BLOCK);
+            let state = refutation::refuse(s, Reason::NoRoomForABlock);
             Loaded { state, id }
         }
         Piece::Word(w) => {
@@ -100,7 +86,7 @@ fn take_piece(
             let state = refutation::admit(s, store, index, marks, id);
             Loaded {
                 state,
-                id: std::num::wrapping_add_u32(id, 1),
+                id: id.wrapping_add(1),
             }
         }
     }

@@ -5,15 +5,31 @@ ghost use Rattle.std.specs.Prelude.{◌≡◌, ℕ, ◌<◌, ◌≤◌, Bool, Li
 ghost use Rattle.refutation.specs.Sound.{Holds, Keeps};
 ghost use Rattle.lrat.specs.First.{first_reader};
 
-use refutation::State;
+use refutation::{Reason, State};
+
+// What the next number is.
+#[derive(Clone, Copy, PartialEq, Eq)]
+pub enum Phase {
+    // a clause's number
+    Number,
+    // a literal, unless a `d` comes
+    Numbered,
+    Literal,
+    Hint,
+    // after `d`, nothing before a blank
+    LetterD,
+    // a clause to forget
+    Forgotten,
+    // none
+    End,
+}
 
 #[derive(Clone, Copy)]
 pub struct Reader {
     pub state: State,
     // the line that is read, from 1 on
     pub line: u32,
-    // what the next number is
-    pub phase: u32,
+    pub phase: Phase,
     // the number begun
     pub value: u32,
     pub digits: bool,
@@ -21,26 +37,6 @@ pub struct Reader {
 }
 
 impl Reader {
-    // what the next number is: a clause's number; then a literal, unless a `d` comes; a literal; a hint; after `d` nothing before a blank; a clause to forget; none
-    const NUMBER: u32 = 0;
-
-    const NUMBERED: u32 = 1;
-
-    const LITERAL: u32 = 2;
-
-    const HINT: u32 = 3;
-
-    const LETTER_D: u32 = 4;
-
-    const FORGOTTEN: u32 = 5;
-
-    const END: u32 = 6;
-    // reasons to refuse, beside those of the steps
-    const FORMAT: u32 = 8;
-
-    const VALUE_TOO_LARGE: u32 = 9;
-
-    const NEGATIVE_HINT: u32 = 10;
     // the largest number
     const LARGEST: u32 = 400000000;
 }
@@ -49,11 +45,11 @@ impl Reader {
 pub fn first_line(state: State) -> Reader
     ensures { (result.state ≡ state) × (result ≡ first_reader state) }
 {
-    let line = if state.refusal == 0 { 1 } else { 0 };
+    let line = if state.refusal.is_none() { 1 } else { 0 };
     Reader {
         state,
         line,
-        phase: Reader::NUMBER,
+        phase: Phase::Number,
         value: 0,
         digits: false,
         minus: false,
@@ -61,24 +57,24 @@ pub fn first_line(state: State) -> Reader
 }
 
 // The next number is begun.
-fn after(r: Reader, state: State, phase: u32) -> Reader
+fn after(r: Reader, state: State, phase: Phase) -> Reader
     ensures { result.state ≡ state }
 {
     Reader {
         state,
-        line: r.line,
         phase,
         value: 0,
         digits: false,
         minus: false,
+        ..r
     }
 }
 
-fn refused(r: Reader, why: u32) -> Reader
+fn refused(r: Reader, why: Reason) -> Reader
     ensures { (a : List Bool) (store index marks : List ℕ) → Holds a r.state store index marks → Holds a result.state store index marks }
 {
     let s = r.state;
-    after(r, refutation::refuse(s, why), Reader::END)
+    after(r, refutation::refuse(s, why), Phase::End)
 }
 
 // ---- a number, by what it is
@@ -88,9 +84,8 @@ fn numbered(r: Reader, store: &mut [u32], index: &mut [u32], marks: &[u32]) -> R
     ensures { Keeps r.state store.old index.old marks.now result.state store.new index.new marks.now }
 {
     let s = r.state;
-    let mut t = compaction::compact(s, store, index, marks);
-    t.id = r.value;
-    after(r, t, Reader::NUMBERED)
+    let t = compaction::compact(s, store, index, marks);
+    after(r, State { id: r.value, ..t }, Phase::Numbered)
 }
 
 fn literal(r: Reader, store: &mut [u32], index: &[u32], marks: &mut [u32]) -> Reader
@@ -101,21 +96,21 @@ fn literal(r: Reader, store: &mut [u32], index: &[u32], marks: &mut [u32]) -> Re
     let v = r.value;
     if r.minus {
         if v == 0 {
-            return refused(r, Reader::FORMAT);
+            return refused(r, Reason::Format);
         }
         return after(
             r,
             refutation::put(s, store, index, marks, 2 * v + 1),
-            Reader::LITERAL,
+            Phase::Literal,
         );
     }
     if v == 0 {
-        return after(r, s, Reader::HINT);
+        return after(r, s, Phase::Hint);
     }
     after(
         r,
         refutation::put(s, store, index, marks, 2 * v),
-        Reader::LITERAL,
+        Phase::Literal,
     )
 }
 
@@ -125,9 +120,9 @@ fn hinted(r: Reader, store: &mut [u32], index: &mut [u32], marks: &mut [u32]) ->
     let s = r.state;
     let v = r.value;
     if v == 0 {
-        return after(r, refutation::commit(s, store, index, marks), Reader::END);
+        return after(r, refutation::commit(s, store, index, marks), Phase::End);
     }
-    after(r, refutation::hint(s, store, index, marks, v), Reader::HINT)
+    after(r, refutation::hint(s, store, index, marks, v), Phase::Hint)
 }
 
 fn forgotten(r: Reader, store: &[u32], index: &mut [u32], marks: &[u32]) -> Reader
@@ -136,12 +131,12 @@ fn forgotten(r: Reader, store: &[u32], index: &mut [u32], marks: &[u32]) -> Read
     let s = r.state;
     let v = r.value;
     if v == 0 {
-        return after(r, s, Reader::END);
+        return after(r, s, Phase::End);
     }
     after(
         r,
         refutation::forget(s, store, index, marks, v),
-        Reader::FORGOTTEN,
+        Phase::Forgotten,
     )
 }
 
@@ -149,26 +144,16 @@ fn forgotten(r: Reader, store: &[u32], index: &mut [u32], marks: &[u32]) -> Read
 fn number(r: Reader, store: &mut [u32], index: &mut [u32], marks: &mut [u32]) -> Reader
     ensures { Keeps r.state store.old index.old marks.old result.state store.new index.new marks.new }
 {
-    let phase = r.phase;
     if Reader::LARGEST < r.value {
-        return refused(r, Reader::VALUE_TOO_LARGE);
+        return refused(r, Reason::ValueTooLarge);
     }
-    if phase == Reader::HINT {
-        return hinted(r, store, index, marks);
+    match r.phase {
+        Phase::Number => numbered(r, store, index, marks),
+        Phase::Numbered | Phase::Literal => literal(r, store, index, marks),
+        Phase::Hint => hinted(r, store, index, marks),
+        Phase::Forgotten => forgotten(r, store, index, marks),
+        Phase::LetterD | Phase::End => refused(r, Reason::Format),
     }
-    if phase == Reader::LITERAL {
-        return literal(r, store, index, marks);
-    }
-    if phase == Reader::NUMBERED {
-        return literal(r, store, index, marks);
-    }
-    if phase == Reader::FORGOTTEN {
-        return forgotten(r, store, index, marks);
-    }
-    if phase == Reader::NUMBER {
-        return numbered(r, store, index, marks);
-    }
-    refused(r, Reader::FORMAT)
 }
 
 // ---- bytes that are no digits
@@ -181,11 +166,11 @@ fn ended(r: Reader, store: &mut [u32], index: &mut [u32], marks: &mut [u32]) -> 
         return number(r, store, index, marks);
     }
     if r.minus {
-        return refused(r, Reader::FORMAT);
+        return refused(r, Reason::Format);
     }
-    if r.phase == Reader::LETTER_D {
+    if r.phase == Phase::LetterD {
         let s = r.state;
-        return after(r, s, Reader::FORGOTTEN);
+        return after(r, s, Phase::Forgotten);
     }
     r
 }
@@ -195,48 +180,34 @@ fn next_line(r: Reader) -> Reader
     ensures { (a : List Bool) (store index marks : List ℕ) → Holds a r.state store index marks → Holds a result.state store index marks }
 {
     let s = r.state;
-    if s.refusal != 0 {
+    if s.refusal.is_some() {
         return r;
     }
-    if r.phase != Reader::END {
-        return refused(r, Reader::FORMAT);
+    if r.phase != Phase::End {
+        return refused(r, Reason::Format);
     }
-    let mut q = after(r, s, Reader::NUMBER);
-    q.line = std::num::wrapping_add_u32(r.line, 1);
-    q
+    Reader {
+        line: r.line.wrapping_add(1),
+        ..after(r, s, Phase::Number)
+    }
 }
 
 // A minus sign before a literal, or the letter that says what follows are clauses to forget.
 fn sign(r: Reader, b: u8) -> Reader
     ensures { (a : List Bool) (store index marks : List ℕ) → Holds a r.state store index marks → Holds a result.state store index marks }
 {
-    let phase = r.phase;
     if r.digits | r.minus {
-        return refused(r, Reader::FORMAT);
+        return refused(r, Reason::Format);
     }
-    if b == b'-' {
-        if phase == Reader::HINT {
-            return refused(r, Reader::NEGATIVE_HINT);
-        }
-        if phase == Reader::NUMBERED {
-            let mut q = r;
-            q.minus = true;
-            return q;
-        }
-        if phase == Reader::LITERAL {
-            let mut q = r;
-            q.minus = true;
-            return q;
-        }
-        return refused(r, Reader::FORMAT);
-    }
-    if b == b'd' {
-        if phase == Reader::NUMBERED {
+    match (b, r.phase) {
+        (b'-', Phase::Hint) => refused(r, Reason::NegativeHint),
+        (b'-', Phase::Numbered | Phase::Literal) => { Reader { minus: true, ..r } }
+        (b'd', Phase::Numbered) => {
             let s = r.state;
-            return after(r, s, Reader::LETTER_D);
+            after(r, s, Phase::LetterD)
         }
+        _ => refused(r, Reason::Format),
     }
-    refused(r, Reader::FORMAT)
 }
 
 fn mark(r: Reader, b: u8, store: &mut [u32], index: &mut [u32], marks: &mut [u32]) -> Reader
@@ -254,32 +225,19 @@ fn mark(r: Reader, b: u8, store: &mut [u32], index: &mut [u32], marks: &mut [u32
 
 // ---- pieces
 
-// A number and the place after its digits.
-#[derive(Clone, Copy)]
-struct DigitsRead {
-    value: u32,
-    next: usize,
-}
-
-// The digits from place `from` on, put behind the value begun. One past the largest number stays so.
-fn digits(text: &[u8], from: usize, value: u32) -> DigitsRead
+// The digits from place `from` on, put behind the value begun, and the place after them. One past the largest number stays so.
+fn digits(text: &[u8], from: usize, value: u32) -> (u32, usize)
     requires { from ≤ length text.now }
-    ensures { (from ≤ result.next) × (result.next ≤ length text.now) }
+    ensures { (from ≤ result.1) × (result.1 ≤ length text.now) }
 {
     let mut v = value;
-    let mut i = from;
-    while i < text.len() {
-        let b = text[i];
-        if b < 48 {
-            return DigitsRead { value: v, next: i };
+    for i in from..text.len() {
+        if !text[i].is_ascii_digit() {
+            return (v, i);
         }
-        if 57 < b {
-            return DigitsRead { value: v, next: i };
-        }
-        v = appended(v, b);
-        i += 1;
+        v = appended(v, text[i]);
     }
-    DigitsRead { value: v, next: i }
+    (v, text.len())
 }
 
 fn appended(v: u32, b: u8) -> u32
@@ -288,7 +246,7 @@ fn appended(v: u32, b: u8) -> u32
     if Reader::LARGEST < v {
         return v;
     }
-    v * 10 + (b - 48) as u32
+    v * 10 + u32::from(b - b'0')
 }
 
 // The reader after a part of the text, and the place after that part.
@@ -311,15 +269,14 @@ fn step(
     ensures keeps { Keeps r.state store.old index.old marks.old result.reader.state store.new index.new marks.new }
     ensures i_lt_next { (i < result.next) × (result.next ≤ length text.now) }
 {
-    let d = digits(text, i, r.value);
-    if i < d.next {
-        let mut q = r;
-        q.value = d.value;
-        q.digits = true;
-        return Progress {
-            reader: q,
-            next: d.next,
+    let (value, next) = digits(text, i, r.value);
+    if i < next {
+        let reader = Reader {
+            value,
+            digits: true,
+            ..r
         };
+        return Progress { reader, next };
     }
     let q = mark(r, text[i], store, index, marks);
     Progress {
@@ -341,7 +298,7 @@ pub fn feed(
     let mut q = r;
     let mut i: usize = 0;
     while i < text.len() {
-        if q.state.refusal != 0 {
+        if q.state.refusal.is_some() {
             return q;
         }
         if q.state.refuted {

@@ -8,7 +8,7 @@ use Prim.Native.String.{String, [] as ε, ◌∷◌ as ◌◁◌}
 use mathlib.Core.Bool.{Bool, false, not, ◌&&◌}
 use mathlib.Core.List.Memᴰ
 use mathlib.Core.List.{List, [], ◌∷◌, ◌++◌, map, Memᴰ}
-use mathlib.Core.Option.{Option, none, some}
+use Rattle.std.specs.Prelude.{Option, None, Some}
 use lib.Dec.{T, leb, eqb, leb→le}
 use lib.ListN.{length, replicate, get_or}
 use Rattle.model.specs.declared.Literal.{Literal}
@@ -18,7 +18,8 @@ use Rattle.model.specs.declared.Node.{Node}
 use Rattle.model.specs.declared.Constraint.{Constraint}
 use Rattle.model.specs.declared.Model.{Model}
 use Rattle.model.specs.declared.Closed.{Closed}
-use Rattle.model.specs.Lists.{every, those, each, pairwise, range}
+use Rattle.std.specs.List.{list_all, flat_map}
+use Rattle.model.specs.Lists.{those, pairwise, range}
 use Rattle.model.specs.Limits.{limits}
 use Rattle.model.specs.Model.{zero_group, zero_constraint, table_of, in_range}
 use Rattle.model.specs.Sheet.{read_sheet}
@@ -61,8 +62,8 @@ reads : List ℕ → ℕ → ℕ → List (List Literal) → Bool
 reads text v c cs = is (read_dimacs text)
   where
     is : Option Formula → Bool
-    is none = false
-    is (some f) = eqb f.variables v && eqb f.clause_count c && same_clauses f.clauses cs
+    is None = false
+    is (Some f) = eqb f.variables v && eqb f.clause_count c && same_clauses f.clauses cs
 
 -- the model of a sheet, and its settled model
 pub model_of : String → Model
@@ -130,7 +131,7 @@ example_a =
     && same (block_text m 1) (bytes "1 2 -5 0\n-2 5 0\n1 -6 0\n-1 5 0\n2 -6 0\n-1 -2 6 0\n5 0\n-6 0\n")
     && same (block_text m 2) (bytes "3 4 -7 0\n-4 7 0\n3 -8 0\n-3 7 0\n4 -8 0\n-3 -4 8 0\n7 0\n")
     && same (block_text m 3) (bytes "-1 3 0\n-2 4 0\n")
-    && every (λ b. eqb (block_refusal m b limits.block) 0) (range 0 4)
+    && list_all (λ b. eqb (block_refusal m b limits.block) 0) (range 0 4)
     && reads (listing m) 8 17 clauses_a
     && same_clauses (clauses m) clauses_a
 
@@ -196,7 +197,7 @@ example_i =
 -- ---- the table
 
 pub starred_table : Bool
-starred_table = every (λ b. b) (example_a ∷ example_b ∷ example_c ∷ example_d ∷ example_e ∷ example_f ∷ example_g ∷ example_h ∷ example_i ∷ [])
+starred_table = list_all (λ b. b) (example_a ∷ example_b ∷ example_c ∷ example_d ∷ example_e ∷ example_f ∷ example_g ∷ example_h ∷ example_i ∷ [])
 
 pub starred : T starred_table
 unfolding defs bytes same same_literal same_clauses reads model_of settled settles_in is_refused closing closes_as sheet_a listing_a clauses_a example_a example_b example_c example_d sheet_e example_e sheet_f example_f example_g example_h sheet_i sheet_i_exchanged example_i starred_table
@@ -407,7 +408,7 @@ texts = tt
 
 -- the refusal and the line of a sheet of these lines
 reads_as : List String → ℕ → ℕ → Bool
-reads_as ls r line = let a = read_sheet (each bytes ls) in eqb a.refusal r && eqb a.line line
+reads_as ls r line = let a = read_sheet (flat_map bytes ls) in eqb a.refusal r && eqb a.line line
 
 head_a : String
 head_a = "   1   3   2   1\n"
@@ -424,8 +425,8 @@ line_a = "   3   2   1   2\n"
 blanks_as_ones : Bool
 blanks_as_ones =
     reads_as (head_a ∷ first_a ∷ second_a ∷ line_a ∷ []) 0 0
-    && same (sheet_text (read_sheet (each bytes (head_a ∷ first_a ∷ second_a ∷ line_a ∷ []))).model) (bytes sheet_a)
-    && same (sheet_text (read_sheet (each bytes (head_a ∷ "   2   1   1   1       1    \n" ∷ second_a ∷ line_a ∷ []))).model) (bytes sheet_a)
+    && same (sheet_text (read_sheet (flat_map bytes (head_a ∷ first_a ∷ second_a ∷ line_a ∷ []))).model) (bytes sheet_a)
+    && same (sheet_text (read_sheet (flat_map bytes (head_a ∷ "   2   1   1   1       1    \n" ∷ second_a ∷ line_a ∷ []))).model) (bytes sheet_a)
 
 -- a blank low, high, number and first field of a group line; a tab among the spaces
 blank_limits : Bool
@@ -568,7 +569,7 @@ after_outputs =
     settles_in 2 teams
     && lists_as teams "p cnf 7 14\n1 2 -4 0\n-2 4 0\n1 -5 0\n-1 4 0\n2 -5 0\n-1 -2 5 0\n-5 0\n-1 -3 -6 0\n1 3 -6 0\n-1 3 6 0\n1 -3 6 0\n2 -7 0\n-2 7 0\n6 7 0\n"
     && same (block_text m 2) (bytes "-1 -3 -6 0\n1 3 -6 0\n-1 3 6 0\n1 -3 6 0\n2 -7 0\n-2 7 0\n6 7 0\n")
-    && every (λ b. eqb (block_refusal m b limits.block) 0) (range 0 3)
+    && list_all (λ b. eqb (block_refusal m b limits.block) 0) (range 0 3)
     && writes_as (model_of teams) teams
 
 -- its four solutions filled; groups alike are none; read back, and with X of entrant 1 the other way or a team twice refused
@@ -702,8 +703,8 @@ block_by_block =
     let m = settled trees in
     settles_in 1 trees && eqb (block_count m) 5
     && pairwise same (map (block_text m) (range 0 6)) (map bytes trees_by_block)
-    && same (listing m) (each bytes trees_by_block)
-    && every (λ b. eqb (block_refusal m b limits.block) 0) (range 0 6) && eqb (block_refusal m 6 limits.block) 23
+    && same (listing m) (flat_map bytes trees_by_block)
+    && list_all (λ b. eqb (block_refusal m b limits.block) 0) (range 0 6) && eqb (block_refusal m 6 limits.block) 23
     && eqb (block_refusal m 2 100) 0 && eqb (block_refusal m 2 99) 24
 
 -- nothing but the header: E settled has no counter and no line; nor has a tree of one leaf a block
@@ -729,7 +730,7 @@ most_groups =
 
 -- the model of a sheet that is written in pieces
 piecewise : List String → Model
-piecewise ls = (read_sheet (each bytes ls)).model
+piecewise ls = (read_sheet (flat_map bytes ls)).model
 
 -- 32 of 64 who are all open: the root's block has 2·33·33 − 2 clauses and 64 units
 half : List String
@@ -776,7 +777,7 @@ last_bit =
     let a = propagated (piecewise last_entrant) in
     reads_as last_entrant 0 0
     && marks_as (piecewise last_entrant) (own ∷ 0 ∷ 0 ∷ own ∷ 0 ∷ 0 ∷ []) (whole ∷ others ∷ whole ∷ own ∷ own ∷ own ∷ [])
-    && same (sheet_text (piecewise last_entrant)) (each bytes last_entrant)
+    && same (sheet_text (piecewise last_entrant)) (flat_map bytes last_entrant)
     && eqb a.refusal 0 && eqb a.passes 3
     && marks_as a.model (own ∷ 0 ∷ own ∷ own ∷ 0 ∷ own ∷ []) (whole ∷ others ∷ whole ∷ own ∷ 0 ∷ own ∷ [])
     && same (header_text a.model) (bytes "p cnf 189 63\n") && eqb (block_count a.model) 3

@@ -11,3 +11,4 @@ pub mod Solver
 pub mod Solutions
 pub mod Examples
 pub mod Refusals
+pub mod Search

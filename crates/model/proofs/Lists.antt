@@ -11,7 +11,8 @@ use mathlib.Core.List.{List, [], ◌∷◌, ◌++◌, map, append_assoc, append-
 use lib.Dec.{T, leb, leb→le, le→leb}
 use lib.ListN.{length, get_or, set, take, drop, replicate, length-append, drop_of_length-le}
 use lib.Seq.{sets, sets-eq, take_at, set_at, append_snoc, drop-cons, take-suc, take_all, length-take-le}
-use Rattle.model.specs.Lists.{every, any, pairwise, those, each, total, range, on_place, between}
+use Rattle.std.specs.List.{list_all, list_any, flat_map}
+use Rattle.model.specs.Lists.{pairwise, those, total, range, on_place, between}
 
 -- ---- tests as facts
 
@@ -86,40 +87,40 @@ or-none false b e = (refl, e)
 -- ---- joined lists
 
 module _ {A : Type 0} where
-  pub every_append : (p : A → Bool) (xs ys : List A) → every p (xs ++ ys) ≡ (every p xs && every p ys)
+  pub every_append : (p : A → Bool) (xs ys : List A) → list_all p (xs ++ ys) ≡ (list_all p xs && list_all p ys)
   every_append p [] ys = refl
-  every_append p (x ∷ xs) ys = ap (λ b. p x && b) (every_append p xs ys) ∙ sym (and_assoc (p x) (every p xs) (every p ys))
+  every_append p (x ∷ xs) ys = ap (λ b. p x && b) (every_append p xs ys) ∙ sym (and_assoc (p x) (list_all p xs) (list_all p ys))
 
-  pub any_append : (p : A → Bool) (xs ys : List A) → any p (xs ++ ys) ≡ (any p xs || any p ys)
+  pub any_append : (p : A → Bool) (xs ys : List A) → list_any p (xs ++ ys) ≡ (list_any p xs || list_any p ys)
   any_append p [] ys = refl
-  any_append p (x ∷ xs) ys = ap (λ b. p x || b) (any_append p xs ys) ∙ sym (or_assoc (p x) (any p xs) (any p ys))
+  any_append p (x ∷ xs) ys = ap (λ b. p x || b) (any_append p xs ys) ∙ sym (or_assoc (p x) (list_any p xs) (list_any p ys))
 
   pub total-append : (f : A → ℕ) (xs ys : List A) → total f (xs ++ ys) ≡ total f xs + total f ys
   total-append f [] ys = omega arith
   total-append f (x ∷ xs) ys = ap (λ (n : ℕ). f x + n) (total-append f xs ys) ∙ sym (add_assoc (f x) (total f xs) (total f ys))
 
-  pub every-getD : (p : A → Bool) (xs : List A) (d : A) (i : ℕ) → T (every p xs) → i < length xs → T (p (get_or xs i d))
+  pub every-getD : (p : A → Bool) (xs : List A) (d : A) (i : ℕ) → T (list_all p xs) → i < length xs → T (p (get_or xs i d))
   every-getD p [] d i t h = absurd (omega arith)
-  every-getD p (x ∷ xs) d zero t h = and_left (p x) (every p xs) t
-  every-getD p (x ∷ xs) d (suc i) t h = every-getD p xs d i (and_right (p x) (every p xs) t) (omega arith)
+  every-getD p (x ∷ xs) d zero t h = and_left (p x) (list_all p xs) t
+  every-getD p (x ∷ xs) d (suc i) t h = every-getD p xs d i (and_right (p x) (list_all p xs) t) (omega arith)
 
 module _ {A B : Type 0} where
-  pub each_append : (f : A → List B) (xs ys : List A) → each f (xs ++ ys) ≡ each f xs ++ each f ys
+  pub each_append : (f : A → List B) (xs ys : List A) → flat_map f (xs ++ ys) ≡ flat_map f xs ++ flat_map f ys
   each_append f [] ys = refl
-  each_append f (x ∷ xs) ys = ap (λ (l : List B). f x ++ l) (each_append f xs ys) ∙ sym (append_assoc (f x) (each f xs) (each f ys))
+  each_append f (x ∷ xs) ys = ap (λ (l : List B). f x ++ l) (each_append f xs ys) ∙ sym (append_assoc (f x) (flat_map f xs) (flat_map f ys))
 
-  pub every-each : (p : B → Bool) (f : A → List B) (xs : List A) → every p (each f xs) ≡ every (λ x. every p (f x)) xs
+  pub every-each : (p : B → Bool) (f : A → List B) (xs : List A) → list_all p (flat_map f xs) ≡ list_all (λ x. list_all p (f x)) xs
   every-each p f [] = refl
-  every-each p f (x ∷ xs) = every_append p (f x) (each f xs) ∙ ap (λ b. every p (f x) && b) (every-each p f xs)
+  every-each p f (x ∷ xs) = every_append p (f x) (flat_map f xs) ∙ ap (λ b. list_all p (f x) && b) (every-each p f xs)
 
-  pub length-each : (f : A → List B) (xs : List A) → length (each f xs) ≡ total (λ x. length (f x)) xs
+  pub length-each : (f : A → List B) (xs : List A) → length (flat_map f xs) ≡ total (λ x. length (f x)) xs
   length-each f [] = refl
-  length-each f (x ∷ xs) = length-append (f x) (each f xs) ∙ ap (λ (n : ℕ). length (f x) + n) (length-each f xs)
+  length-each f (x ∷ xs) = length-append (f x) (flat_map f xs) ∙ ap (λ (n : ℕ). length (f x) + n) (length-each f xs)
 
 -- what is made of what is made
-pub each-each : {A B C : Type 0} (g : B → List C) (f : A → List B) (xs : List A) → each g (each f xs) ≡ each (λ x. each g (f x)) xs
+pub each-each : {A B C : Type 0} (g : B → List C) (f : A → List B) (xs : List A) → flat_map g (flat_map f xs) ≡ flat_map (λ x. flat_map g (f x)) xs
 each-each g f [] = refl
-each-each g f (x ∷ xs) = each_append g (f x) (each f xs) ∙ ap (λ l. each g (f x) ++ l) (each-each g f xs)
+each-each g f (x ∷ xs) = each_append g (f x) (flat_map f xs) ∙ ap (λ l. flat_map g (f x) ++ l) (each-each g f xs)
 
 -- ---- ranges
 
@@ -136,18 +137,18 @@ pub range_last : (a k : ℕ) → range a (suc k) ≡ range a k ++ ((a + k) ∷ [
 range_last a zero = rw (add-zero a)
 range_last a (suc k) = ap (λ (l : List ℕ). a ∷ l) (range_last (suc a) k ∙ rw (suc-add a k, add-suc a k))
 
-pub every-range : (p : ℕ → Bool) (a k : ℕ) → T (every p (range a k)) → (i : ℕ) → a ≤ i → i < a + k → T (p i)
+pub every-range : (p : ℕ → Bool) (a k : ℕ) → T (list_all p (range a k)) → (i : ℕ) → a ≤ i → i < a + k → T (p i)
 every-range p a zero t i l h = absurd (omega arith)
-every-range p a (suc k) t i l h = go (ℕ_discrete i a) (λ h₁ h₂. every-range p (suc a) k (and_right (p a) (every p (range (suc a) k)) t) i h₁ h₂)
+every-range p a (suc k) t i l h = go (ℕ_discrete i a) (λ h₁ h₂. every-range p (suc a) k (and_right (p a) (list_all p (range (suc a) k)) t) i h₁ h₂)
   where
     go : Dec (i ≡ a) → (suc a ≤ i → i < suc a + k → T (p i)) → T (p i)
-    go (yes e) ih = subst (λ (n : ℕ). T (p n)) (sym e) (and_left (p a) (every p (range (suc a) k)) t)
+    go (yes e) ih = subst (λ (n : ℕ). T (p n)) (sym e) (and_left (p a) (list_all p (range (suc a) k)) t)
     go (no f) ih = ih (omega arith) (omega arith)
 
-pub range-every : (p : ℕ → Bool) (a k : ℕ) → ((i : ℕ) → a ≤ i → i < a + k → T (p i)) → T (every p (range a k))
+pub range-every : (p : ℕ → Bool) (a k : ℕ) → ((i : ℕ) → a ≤ i → i < a + k → T (p i)) → T (list_all p (range a k))
 range-every p a zero h = tt
 range-every p a (suc k) h =
-    and_both (p a) (every p (range (suc a) k)) (h a (omega arith) (omega arith)) (range-every p (suc a) k (λ i l u. h i (omega arith) (omega arith)))
+    and_both (p a) (list_all p (range (suc a) k)) (h a (omega arith) (omega arith)) (range-every p (suc a) k (λ i l u. h i (omega arith) (omega arith)))
 
 -- ---- a place
 
@@ -214,18 +215,18 @@ map-all P f [] h = tt
 map-all P f (x ∷ l) h = (h.0, map-all P f l h.1)
 
 -- the same, as a test
-pub every-all : {A : Type 0} (p : A → Bool) (l : List A) → T (every p l) → All (λ a. T (p a)) l
+pub every-all : {A : Type 0} (p : A → Bool) (l : List A) → T (list_all p l) → All (λ a. T (p a)) l
 every-all p [] t = tt
-every-all p (x ∷ l) t = (and_left (p x) (every p l) t, every-all p l (and_right (p x) (every p l) t))
+every-all p (x ∷ l) t = (and_left (p x) (list_all p l) t, every-all p l (and_right (p x) (list_all p l) t))
 
-pub all-every : {A : Type 0} (p : A → Bool) (l : List A) → All (λ a. T (p a)) l → T (every p l)
+pub all-every : {A : Type 0} (p : A → Bool) (l : List A) → All (λ a. T (p a)) l → T (list_all p l)
 all-every p [] h = tt
-all-every p (x ∷ l) h = and_both (p x) (every p l) h.0 (all-every p l h.1)
+all-every p (x ∷ l) h = and_both (p x) (list_all p l) h.0 (all-every p l h.1)
 
-pub every_take : {A : Type 0} (p : A → Bool) (k : ℕ) (xs : List A) → T (every p xs) → T (every p (take k xs))
+pub every_take : {A : Type 0} (p : A → Bool) (k : ℕ) (xs : List A) → T (list_all p xs) → T (list_all p (take k xs))
 every_take p zero xs t = tt
 every_take p (suc k) [] t = tt
-every_take p (suc k) (x ∷ xs) t = and_both (p x) (every p (take k xs)) (and_left (p x) (every p xs) t) (every_take p k xs (and_right (p x) (every p xs) t))
+every_take p (suc k) (x ∷ xs) t = and_both (p x) (list_all p (take k xs)) (and_left (p x) (list_all p xs) t) (every_take p k xs (and_right (p x) (list_all p xs) t))
 
 -- ---- two lists of one length
 
@@ -255,20 +256,20 @@ pairwise-length p (x ∷ xs) (y ∷ ys) t = ap suc (pairwise-length p xs ys (and
 -- ---- tests of what is made of each element
 
 module _ {A B : Type 0} (p : B → Bool) (f : A → B) where
-  pub every_map : (l : List A) → every p (map f l) ≡ every (λ a. p (f a)) l
+  pub every_map : (l : List A) → list_all p (map f l) ≡ list_all (λ a. p (f a)) l
   every_map [] = refl
   every_map (x ∷ l) = ap (λ b. p (f x) && b) (every_map l)
 
-  pub any-map : (l : List A) → any p (map f l) ≡ any (λ a. p (f a)) l
+  pub any-map : (l : List A) → list_any p (map f l) ≡ list_any (λ a. p (f a)) l
   any-map [] = refl
   any-map (x ∷ l) = ap (λ b. p (f x) || b) (any-map l)
 
 module _ {A : Type 0} (p q : A → Bool) (h : (a : A) → p a ≡ q a) where
-  pub every-ext : (l : List A) → every p l ≡ every q l
+  pub every-ext : (l : List A) → list_all p l ≡ list_all q l
   every-ext [] = refl
   every-ext (x ∷ l) = ap₂ ◌&&◌ (h x) (every-ext l)
 
-  pub any-ext : (l : List A) → any p l ≡ any q l
+  pub any-ext : (l : List A) → list_any p l ≡ list_any q l
   any-ext [] = refl
   any-ext (x ∷ l) = ap₂ ◌||◌ (h x) (any-ext l)
 
@@ -442,11 +443,11 @@ places k xs d =
         ap {B = List _} (λ l. x ∷ l)
         (values-make (λ i. get_or (x ∷ xs) i d) (λ i. get_or xs i d) 1 0 (length xs) (λ j h. rw (suc-add 0 j, zero-add j)) ∙ from_first xs)
 
-pub each_map : {A B C : Type 0} (f : B → List C) (g : A → B) (xs : List A) → each f (map g xs) ≡ each (λ x. f (g x)) xs
+pub each_map : {A B C : Type 0} (f : B → List C) (g : A → B) (xs : List A) → flat_map f (map g xs) ≡ flat_map (λ x. f (g x)) xs
 each_map f g [] = refl
 each_map f g (x ∷ xs) = ap (λ l. f (g x) ++ l) (each_map f g xs)
 
-pub each-range_ext : {B : Type 0} (f g : ℕ → List B) (i n : ℕ) → ((j : ℕ) → i ≤ j → j < i + n → f j ≡ g j) → each f (range i n) ≡ each g (range i n)
+pub each-range_ext : {B : Type 0} (f g : ℕ → List B) (i n : ℕ) → ((j : ℕ) → i ≤ j → j < i + n → f j ≡ g j) → flat_map f (range i n) ≡ flat_map g (range i n)
 each-range_ext f g i zero h = refl
 each-range_ext {B} f g i (suc n) h =
     ap₂ (λ (a b : List B). a ++ b) (h i (omega arith) (omega arith)) (each-range_ext f g (suc i) n (λ j l k. h j (omega arith) (omega arith)))
@@ -487,17 +488,17 @@ module _ {A : Type 0} where
   places-all P d [] h = tt
   places-all P d (x ∷ xs) h = (h 0 (omega arith), places-all P d xs (λ i l. h (suc i) (omega arith)))
 
-  pub any_none : (p : A → Bool) (xs : List A) → All (λ x. p x ≡ false) xs → any p xs ≡ false
+  pub any_none : (p : A → Bool) (xs : List A) → All (λ x. p x ≡ false) xs → list_any p xs ≡ false
   any_none p [] h = refl
   any_none p (x ∷ xs) h = rw h.0 (any_none p xs h.1)
 
-  pub none_any : (p : A → Bool) (xs : List A) → any p xs ≡ false → All (λ x. p x ≡ false) xs
+  pub none_any : (p : A → Bool) (xs : List A) → list_any p xs ≡ false → All (λ x. p x ≡ false) xs
   none_any p [] e = tt
-  none_any p (x ∷ xs) e = let h = or-none (p x) (any p xs) e in (h.0, none_any p xs h.1)
+  none_any p (x ∷ xs) e = let h = or-none (p x) (list_any p xs) e in (h.0, none_any p xs h.1)
 
-  pub all-each : {B : Type 0} (P : A → Type 0) (f : B → List A) (xs : List B) → All (λ x. All P (f x)) xs → All P (each f xs)
+  pub all-each : {B : Type 0} (P : A → Type 0) (f : B → List A) (xs : List B) → All (λ x. All P (f x)) xs → All P (flat_map f xs)
   all-each P f [] h = tt
-  all-each P f (x ∷ xs) h = all_append P (f x) (each f xs) h.0 (all-each P f xs h.1)
+  all-each P f (x ∷ xs) h = all_append P (f x) (flat_map f xs) h.0 (all-each P f xs h.1)
 
 pub range_all : (P : ℕ → Type 0) (i n : ℕ) → ((j : ℕ) → i ≤ j → j < i + n → P j) → All P (range i n)
 range_all P i zero h = tt
@@ -508,16 +509,16 @@ place-get_or i r [] d h = absurd (omega arith)
 place-get_or zero r (x ∷ xs) d h = refl
 place-get_or (suc i) r (x ∷ xs) d h = place-get_or i r xs d (omega arith)
 
-pub every-range_ext : (p q : ℕ → Bool) (i n : ℕ) → ((j : ℕ) → i ≤ j → j < i + n → p j ≡ q j) → every p (range i n) ≡ every q (range i n)
+pub every-range_ext : (p q : ℕ → Bool) (i n : ℕ) → ((j : ℕ) → i ≤ j → j < i + n → p j ≡ q j) → list_all p (range i n) ≡ list_all q (range i n)
 every-range_ext p q i zero h = refl
 every-range_ext p q i (suc n) h =
     ap₂ (λ (x y : Bool). x && y) (h i (omega arith) (omega arith)) (every-range_ext p q (suc i) n (λ j l k. h j (omega arith) (omega arith)))
 
-pub every-all_ext : {A : Type 0} (p q : A → Bool) (xs : List A) → All (λ x. p x ≡ q x) xs → every p xs ≡ every q xs
+pub every-all_ext : {A : Type 0} (p q : A → Bool) (xs : List A) → All (λ x. p x ≡ q x) xs → list_all p xs ≡ list_all q xs
 every-all_ext p q [] h = refl
 every-all_ext p q (x ∷ xs) h = ap₂ (λ (a b : Bool). a && b) h.0 (every-all_ext p q xs h.1)
 
-pub any-all_ext : {A : Type 0} (p q : A → Bool) (xs : List A) → All (λ x. p x ≡ q x) xs → any p xs ≡ any q xs
+pub any-all_ext : {A : Type 0} (p q : A → Bool) (xs : List A) → All (λ x. p x ≡ q x) xs → list_any p xs ≡ list_any q xs
 any-all_ext p q [] h = refl
 any-all_ext p q (x ∷ xs) h = ap₂ ◌||◌ h.0 (any-all_ext p q xs h.1)
 
@@ -554,9 +555,9 @@ pub total_mono : {A : Type 0} (f g : A → ℕ) (xs : List A) → All (λ x. f x
 total_mono f g [] h = omega arith
 total_mono f g (x ∷ xs) h = omega (arith, h.0, total_mono f g xs h.1)
 
-pub each_all : {A B : Type 0} (P : B → Type 0) (f : A → List B) (xs : List A) → All P (each f xs) → All (λ x. All P (f x)) xs
+pub each_all : {A B : Type 0} (P : B → Type 0) (f : A → List B) (xs : List A) → All P (flat_map f xs) → All (λ x. All P (f x)) xs
 each_all P f [] h = tt
-each_all P f (x ∷ xs) h = let s = (all_both P (f x) (each f xs)).0 h in (s.0, each_all P f xs s.1)
+each_all P f (x ∷ xs) h = let s = (all_both P (f x) (flat_map f xs)).0 h in (s.0, each_all P f xs s.1)
 
 -- two changes that agree on what stands at the place
 pub place-agree : {A : Type 0} (i : ℕ) (r q : A → A) (t : List A) (d : A) → (i < length t → r (get_or t i d) ≡ q (get_or t i d)) → on_place i r t ≡ on_place i q t

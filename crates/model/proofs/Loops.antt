@@ -8,7 +8,8 @@ use mathlib.Core.List.{List, ◌∷◌}
 use lib.Dec.{eqb}
 use lib.ListN.{length, get_or, take, drop, length-take, drop_of_length-le}
 use lib.Seq.{drop-cons, get_or-take}
-use Rattle.model.specs.Lists.{every, any, range, distinct}
+use Rattle.std.specs.List.{list_all, list_any}
+use Rattle.model.specs.Lists.{range, distinct}
 
 -- ---- a loop's rest: what stands from place i on
 
@@ -17,18 +18,18 @@ module _ {A : Type 0} (d : A) where
   drop-next xs i h = rw (add-one i) (drop-cons xs i d h)
 
   pub every-next : (p : A → Bool) (xs : List A) (i : ℕ) → i < length xs
-      → every p (drop i xs) ≡ (p (get_or xs i d) && every p (drop (i + 1) xs))
-  every-next p xs i h = ap (every p) (drop-next xs i h)
+      → list_all p (drop i xs) ≡ (p (get_or xs i d) && list_all p (drop (i + 1) xs))
+  every-next p xs i h = ap (list_all p) (drop-next xs i h)
 
-  pub any_next : (p : A → Bool) (xs : List A) (i : ℕ) → i < length xs → any p (drop i xs) ≡ (p (get_or xs i d) || any p (drop (i + 1) xs))
-  any_next p xs i h = ap (any p) (drop-next xs i h)
+  pub any_next : (p : A → Bool) (xs : List A) (i : ℕ) → i < length xs → list_any p (drop i xs) ≡ (p (get_or xs i d) || list_any p (drop (i + 1) xs))
+  any_next p xs i h = ap (list_any p) (drop-next xs i h)
 
 module _ {A : Type 0} where
-  pub every-end : (p : A → Bool) (xs : List A) (i : ℕ) → length xs ≤ i → every p (drop i xs) ≡ true
-  every-end p xs i h = ap (every p) (drop_of_length-le xs h)
+  pub every-end : (p : A → Bool) (xs : List A) (i : ℕ) → length xs ≤ i → list_all p (drop i xs) ≡ true
+  every-end p xs i h = ap (list_all p) (drop_of_length-le xs h)
 
-  pub any-end : (p : A → Bool) (xs : List A) (i : ℕ) → length xs ≤ i → any p (drop i xs) ≡ false
-  any-end p xs i h = ap (any p) (drop_of_length-le xs h)
+  pub any-end : (p : A → Bool) (xs : List A) (i : ℕ) → length xs ≤ i → list_any p (drop i xs) ≡ false
+  any-end p xs i h = ap (list_any p) (drop_of_length-le xs h)
 
 -- ---- a loop that tests the first k elements in order: found, going on, done
 
@@ -42,39 +43,29 @@ module _ {A : Type 0} (p : A → Bool) (ys : List A) (k i : ℕ) where
   past-k : min k (length ys) ≤ i → length (take k ys) ≤ i
   past-k h = rw (length-take k ys) h
 
-  pub every-goes : every p (take k ys) ≡ every p (drop i (take k ys)) → i < min k (length ys) → (d : A) → p (get_or ys i d) ≡ true
-      → every p (take k ys) ≡ every p (drop (i + 1) (take k ys))
+  pub every-goes : list_all p (take k ys) ≡ list_all p (drop i (take k ys)) → i < min k (length ys) → (d : A) → p (get_or ys i d) ≡ true
+      → list_all p (take k ys) ≡ list_all p (drop (i + 1) (take k ys))
   every-goes inv h d e = inv ∙ every-next d p (take k ys) i (inside-k h) ∙ rw (at_i d h, e)
 
-  pub every-stops : every p (take k ys) ≡ every p (drop i (take k ys)) → i < min k (length ys) → (d : A) → p (get_or ys i d) ≡ false
-      → false ≡ every p (take k ys)
+  pub every-stops : list_all p (take k ys) ≡ list_all p (drop i (take k ys)) → i < min k (length ys) → (d : A) → p (get_or ys i d) ≡ false
+      → false ≡ list_all p (take k ys)
   every-stops inv h d e = sym (inv ∙ every-next d p (take k ys) i (inside-k h) ∙ rw (at_i d h, e))
 
-  pub every-done : every p (take k ys) ≡ every p (drop i (take k ys)) → min k (length ys) ≤ i → true ≡ every p (take k ys)
+  pub every-done : list_all p (take k ys) ≡ list_all p (drop i (take k ys)) → min k (length ys) ≤ i → true ≡ list_all p (take k ys)
   every-done inv h = sym (inv ∙ every-end p (take k ys) i (past-k h))
-
-  pub any-goes : (b : Bool) → b ≡ any p (drop i (take k ys)) → i < min k (length ys) → (d : A) → p (get_or ys i d) ≡ false
-      → b ≡ any p (drop (i + 1) (take k ys))
-  any-goes b inv h d e = inv ∙ any_next d p (take k ys) i (inside-k h) ∙ rw (at_i d h, e)
-
-  pub any_found : (b : Bool) → b ≡ any p (drop i (take k ys)) → i < min k (length ys) → (d : A) → p (get_or ys i d) ≡ true → true ≡ b
-  any_found b inv h d e = sym (inv ∙ any_next d p (take k ys) i (inside-k h) ∙ rw (at_i d h, e))
-
-  pub any-done : (b : Bool) → b ≡ any p (drop i (take k ys)) → min k (length ys) ≤ i → false ≡ b
-  any-done b inv h = sym (inv ∙ any-end p (take k ys) i (past-k h))
 
 -- the same for the test that all are different
 module _ (ys : List ℕ) (k i : ℕ) (inv : distinct (take k ys) ≡ distinct (drop i (take k ys))) where
   distinct-next : i < min k (length ys)
-      → distinct (take k ys) ≡ (not (any (eqb (get_or ys i 0)) (drop (i + 1) (take k ys))) && distinct (drop (i + 1) (take k ys)))
+      → distinct (take k ys) ≡ (not (list_any (eqb (get_or ys i 0)) (drop (i + 1) (take k ys))) && distinct (drop (i + 1) (take k ys)))
   distinct-next h =
       inv ∙ ap distinct (drop-next 0 (take k ys) i (inside-k (λ x. true) ys k i h)) ∙ rw (get_or-take k ys i 0 (omega arith))
 
-  pub distinct-goes : i < min k (length ys) → any (eqb (get_or ys i 0)) (drop (i + 1) (take k ys)) ≡ false
+  pub distinct-goes : i < min k (length ys) → list_any (eqb (get_or ys i 0)) (drop (i + 1) (take k ys)) ≡ false
       → distinct (take k ys) ≡ distinct (drop (i + 1) (take k ys))
   distinct-goes h e = distinct-next h ∙ rw e
 
-  pub distinct-stops : i < min k (length ys) → any (eqb (get_or ys i 0)) (drop (i + 1) (take k ys)) ≡ true → false ≡ distinct (take k ys)
+  pub distinct-stops : i < min k (length ys) → list_any (eqb (get_or ys i 0)) (drop (i + 1) (take k ys)) ≡ true → false ≡ distinct (take k ys)
   distinct-stops h e = sym (distinct-next h ∙ rw e)
 
   pub distinct-done : min k (length ys) ≤ i → true ≡ distinct (take k ys)
@@ -88,12 +79,12 @@ range-next n i h = rw (add-one i, less-by-one) refl
     less-by-one : n - i ≡ suc (n - suc i)
     less-by-one = omega arith
 
-module _ (p : ℕ → Bool) (b : Bool) (n i : ℕ) (inv : b ≡ every p (range i (n - i))) where
-  pub range-goes : i < n → p i ≡ true → b ≡ every p (range (i + 1) (n - (i + 1)))
-  range-goes h e = inv ∙ ap (every p) (range-next n i h) ∙ rw e
+module _ (p : ℕ → Bool) (b : Bool) (n i : ℕ) (inv : b ≡ list_all p (range i (n - i))) where
+  pub range-goes : i < n → p i ≡ true → b ≡ list_all p (range (i + 1) (n - (i + 1)))
+  range-goes h e = inv ∙ ap (list_all p) (range-next n i h) ∙ rw e
 
   pub range-stops : i < n → p i ≡ false → b ≡ false
-  range-stops h e = inv ∙ ap (every p) (range-next n i h) ∙ rw e
+  range-stops h e = inv ∙ ap (list_all p) (range-next n i h) ∙ rw e
 
   pub range-done : n ≤ i → b ≡ true
-  range-done h = let z : n - i ≡ 0 = omega arith in inv ∙ ap (λ (k : ℕ). every p (range i k)) z
+  range-done h = let z : n - i ≡ 0 = omega arith in inv ∙ ap (λ (k : ℕ). list_all p (range i k)) z

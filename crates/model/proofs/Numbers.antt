@@ -2,7 +2,7 @@
 use Prim.Native.Nat.{ℕ, ◌+◌, ◌-◌, ◌*◌, ◌^◌, ◌≤◌, ◌<◌}
 use mathlib.Core.Path.{◌≡◌, ap}
 use mathlib.Core.List.{List}
-use mathlib.Core.Option.{none, some}
+use Rattle.std.specs.Prelude.{None, Some}
 use native.Mathlib.Nat.{pow-suc, pow-le-pow_right, lt_of_lt_of_le}
 use native.Mathlib.Numerals.{add-one}
 use native.Mathlib.Omega.{arith}
@@ -14,18 +14,6 @@ use Rattle.model.proofs.Loops.{drop-next}
 module _ (l : List ℕ) (i : ℕ) (h : i < length l) where
   pub digits_more : (v : ℕ) → 48 ≤ get_or l i 0 → get_or l i 0 ≤ 57 → digits_after v (drop i l) ≡ digits_after (v * 10 + (get_or l i 0 - 48)) (drop (i + 1) l)
   digits_more v a b = rw (drop-next 0 l i h) (simp (le-leb _ _ a, le-leb _ _ b))
-
-  pub digits_low : (v : ℕ) → get_or l i 0 < 48 → digits_after v (drop i l) ≡ none
-  digits_low v a = rw (drop-next 0 l i h) (simp (lt-leb _ _ a))
-
-  pub digits-high : (v : ℕ) → 57 < get_or l i 0 → digits_after v (drop i l) ≡ none
-  digits-high v a = rw (drop-next 0 l i h) (simp (le-leb 48 (get_or l i 0) (omega arith), lt-leb _ _ a))
-
-pub digits-end : (l : List ℕ) (i v : ℕ) → length l ≤ i → digits_after v (drop i l) ≡ some v
-digits-end l i v h = ap (digits_after v) (drop_of_length-le l h)
-
-pub ten_more : (i v b : ℕ) → v < 10 ^ i → b ≤ 9 → v * 10 + b < 10 ^ (i + 1)
-ten_more i v b hv hb = rw (add-one, pow-suc) (omega arith)
 
 pub ten_le : (i v : ℕ) → v < 10 ^ i → i < 9 → v < 100000000
 ten_le i v h k = lt_of_lt_of_le h (pow-le-pow_right {n = 10} (omega arith) (le-8 k))

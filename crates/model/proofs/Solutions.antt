@@ -11,7 +11,8 @@ use lib.Dec.{T, leb, ltb, ltb→lt}
 use lib.ListN.{length, take, length-take}
 use Rattle.model.specs.declared.Group.{Group}
 use Rattle.model.specs.declared.Model.{Model}
-use Rattle.model.specs.Lists.{every, pairwise, those, each, range, between}
+use Rattle.std.specs.List.{list_all, flat_map}
+use Rattle.model.specs.Lists.{pairwise, those, range, between}
 use Rattle.model.specs.Words.{size, inside}
 use Rattle.model.specs.Limits.{limits, groups_for}
 use Rattle.model.specs.Model.{table_of, constraints_of, group_in_range, constraint_in_range, in_range}
@@ -21,12 +22,12 @@ use Rattle.model.proofs.Words.{inside-sub, sub-le}
 
 -- ---- membership
 
-mem_each : {A B : Type 0} (f : A → List B) (y : B) (x : A) (xs : List A) → Memᴰ x xs → Memᴰ y (f x) → Memᴰ y (each f xs)
+mem_each : {A B : Type 0} (f : A → List B) (y : B) (x : A) (xs : List A) → Memᴰ x xs → Memᴰ y (f x) → Memᴰ y (flat_map f xs)
 mem_each f y x [] h k = elim h [ ]
 mem_each {A} {B} f y x (z ∷ xs) h k = go (λ m. mem_each f y x xs m k) (Memᴰ.cases_cons h)
   where
-    go : (Memᴰ x xs → Memᴰ y (each f xs)) → (x ≡ z) ⊎ Memᴰ x xs → Memᴰ y (f z ++ each f xs)
-    go later (inl e) = Memᴰ.append_left (each f xs) (rw e at k)
+    go : (Memᴰ x xs → Memᴰ y (flat_map f xs)) → (x ≡ z) ⊎ Memᴰ x xs → Memᴰ y (f z ++ flat_map f xs)
+    go later (inl e) = Memᴰ.append_left (flat_map f xs) (rw e at k)
     go later (inr m) = Memᴰ.append_right (f z) (later m)
 
 mem_range : (k a i : ℕ) → a ≤ i → i < a + k → Memᴰ i (range a k)
@@ -71,24 +72,24 @@ few n g w q a =
     let i = and_right (inside g.fixed w) (inside w g.possible) (and_left (inside g.fixed w && inside w g.possible) (between g.low g.high (size w)) a) in
     omega (arith, ltb→lt g.possible (2 ^ n) u, sub-le (inside-sub w g.possible i))
 
-below : (n : ℕ) (t : List Group) (d : List ℕ) → T (every (group_in_range n) t) → T (pairwise allowed t d) → All (λ w. w < 2 ^ n) d
+below : (n : ℕ) (t : List Group) (d : List ℕ) → T (list_all (group_in_range n) t) → T (pairwise allowed t d) → All (λ w. w < 2 ^ n) d
 below n [] [] r h = tt
 below n [] (w ∷ d) r h = absurd h
 below n (g ∷ t) [] r h = absurd h
 below n (g ∷ t) (w ∷ d) r h = (
-  few n g w (and_left (group_in_range n g) (every (group_in_range n) t) r) (and_left (allowed g w) (pairwise allowed t d) h),
-  below n t d (and_right (group_in_range n g) (every (group_in_range n) t) r) (and_right (allowed g w) (pairwise allowed t d) h),
+  few n g w (and_left (group_in_range n g) (list_all (group_in_range n) t) r) (and_left (allowed g w) (pairwise allowed t d) h),
+  below n t d (and_right (group_in_range n g) (list_all (group_in_range n) t) r) (and_right (allowed g w) (pairwise allowed t d) h),
 )
 
 pub solution_listed : (m : Model) → T (in_range m) → m.s ≤ length m.groups → (d : List ℕ) → T (is_solution m d) → Memᴰ d (solutions m)
 unfolding is_solution solutions in_range table_of
 solution_listed m r k d h =
-    let a = and_left (pairwise allowed (take m.s m.groups) d) (every (constraint_true d) (constraints_of m)) h in
+    let a = and_left (pairwise allowed (take m.s m.groups) d) (list_all (constraint_true d) (constraints_of m)) h in
     let x = between 1 limits.entrants m.n in
     let y = between 1 (groups_for m.n) m.s in
     let z = leb m.c limits.constraints in
-    let t = every (group_in_range m.n) (take m.s m.groups) in
-    let g = and_right (x && y && z) t (and_left (x && y && z && t) (every (constraint_in_range m.s) (constraints_of m)) r) in
+    let t = list_all (group_in_range m.n) (take m.s m.groups) in
+    let g = and_right (x && y && z) t (and_left (x && y && z && t) (list_all (constraint_in_range m.s) (constraints_of m)) r) in
     mem_those (is_solution m) d (all_tables m.s (2 ^ m.n))
     (all_tables_lem m.s (2 ^ m.n) d
     (sym (pairwise-length allowed (take m.s m.groups) d a) ∙ omega (arith, length-take m.s m.groups))

@@ -4,7 +4,7 @@ use Prim.Native.Nat.{ℕ, ◌+◌, ◌-◌, ◌*◌, ◌≤◌, ◌<◌}
 use native.Mathlib.Omega.{arith}
 use mathlib.Core.Bool.{Bool, true, false, cond, not, ◌&&◌}
 use mathlib.Core.List.{List, [], ◌∷◌}
-use mathlib.Core.Option.{Option, none, some}
+use Rattle.std.specs.Prelude.{Option, None, Some}
 use borrow.Author.Tests.{eqb-false}
 use lib.Dec.{leb, ltb, eqb, leb→le}
 use lib.ListN.{length, get_or}
@@ -20,37 +20,37 @@ use Rattle.model.proofs.Lists.{All, true-T, and_left}
 abbrev pub Named : Literal → Type 0
 Named l = 1 ≤ variable l
 
-digits_grow : (v : ℕ) (ds : List ℕ) (w : ℕ) → digits_after v ds ≡ some w → v ≤ w
+digits_grow : (v : ℕ) (ds : List ℕ) (w : ℕ) → digits_after v ds ≡ Some w → v ≤ w
 digits_grow v [] w e = let q : v ≡ w = cc in omega arith
 digits_grow v (d ∷ ds) w e = go (between 48 57 d) (digits_grow (v * 10 + (d - 48)) ds w) e
   where
-    go : (b : Bool) → (digits_after (v * 10 + (d - 48)) ds ≡ some w → v * 10 + (d - 48) ≤ w) → cond b (digits_after (v * 10 + (d - 48)) ds) none ≡ some w → v ≤ w
+    go : (b : Bool) → (digits_after (v * 10 + (d - 48)) ds ≡ Some w → v * 10 + (d - 48) ≤ w) → cond b (digits_after (v * 10 + (d - 48)) ds) None ≡ Some w → v ≤ w
     go true ih e = let h = ih e in omega arith
     go false ih e = let z : ◌≡◌ {A = ℕ} 0 1 = cc in absurd (omega arith)
 
-first-digit : (ds : List ℕ) (w : ℕ) → (get_or ds 0 0 ≡ 48 → ⊥) → 0 < length ds → digits_after 0 ds ≡ some w → 1 ≤ w
+first-digit : (ds : List ℕ) (w : ℕ) → (get_or ds 0 0 ≡ 48 → ⊥) → 0 < length ds → digits_after 0 ds ≡ Some w → 1 ≤ w
 first-digit [] w f h e = absurd (omega arith)
 first-digit (d ∷ ds) w f h e = go (between 48 57 d) refl e
   where
-    go : (b : Bool) → between 48 57 d ≡ b → cond b (digits_after (0 * 10 + (d - 48)) ds) none ≡ some w → 1 ≤ w
+    go : (b : Bool) → between 48 57 d ≡ b → cond b (digits_after (0 * 10 + (d - 48)) ds) None ≡ Some w → 1 ≤ w
     go true p e =
         let l : 48 ≤ d = leb→le 48 d (and_left (leb 48 d) (leb d 57) (true-T (between 48 57 d) p)) in
         let g = digits_grow (0 * 10 + (d - 48)) ds w e in omega arith
     go false p e = let z : ◌≡◌ {A = ℕ} 0 1 = cc in absurd (omega arith)
 
-number-named : (ds : List ℕ) (v : ℕ) → variable_in ds ≡ some v → 1 ≤ v
+number-named : (ds : List ℕ) (v : ℕ) → variable_in ds ≡ Some v → 1 ≤ v
 unfolding variable_in number_of
 number-named ds v e = go (leb (length ds) 9) (eqb (get_or ds 0 0) 48) refl (eqb (length ds) 0) refl e
   where
     rest : ℕ → Bool
     rest n = ltb 1 n && eqb (get_or ds 0 0) 48
 
-    last : (b : Bool) → eqb (get_or ds 0 0) 48 ≡ false → eqb (length ds) 0 ≡ false → cond b none (digits_after 0 ds) ≡ some v → 1 ≤ v
+    last : (b : Bool) → eqb (get_or ds 0 0) 48 ≡ false → eqb (length ds) 0 ≡ false → cond b None (digits_after 0 ds) ≡ Some v → 1 ≤ v
     last true f z e = let n : ◌≡◌ {A = ℕ} 0 1 = cc in absurd (omega arith)
     last false f z e = first-digit ds v (eqb-false (get_or ds 0 0) 48 f) (omega (arith, eqb-false (length ds) 0 z)) e
 
     go : (a b : Bool) → eqb (get_or ds 0 0) 48 ≡ b → (z : Bool) → eqb (length ds) 0 ≡ z
-        → cond (a && not b) (cond z none (cond (ltb 1 (length ds) && eqb (get_or ds 0 0) 48) none (digits_after 0 ds))) none ≡ some v → 1 ≤ v
+        → cond (a && not b) (cond z None (cond (ltb 1 (length ds) && eqb (get_or ds 0 0) 48) None (digits_after 0 ds))) None ≡ Some v → 1 ≤ v
     go false b f z q e = let n : ◌≡◌ {A = ℕ} 0 1 = cc in absurd (omega arith)
     go true true f z q e = let n : ◌≡◌ {A = ℕ} 0 1 = cc in absurd (omega arith)
     go true false f true q e = let n : ◌≡◌ {A = ℕ} 0 1 = cc in absurd (omega arith)
@@ -60,8 +60,8 @@ literal-named : (sign : ℕ → Literal) → ((v : ℕ) → variable (sign v) �
 literal-named sign is ds l e = go (variable_in ds) refl e
   where
     go : (o : Option ℕ) → variable_in ds ≡ o → as_literal sign o ≡ Names l → Named l
-    go none q e = let n : ◌≡◌ {A = ℕ} 0 1 = cc in absurd (omega arith)
-    go (some v) q e = let r : sign v ≡ l = cc in subst Named r (rw (is v) (number-named ds v q))
+    go None q e = let n : ◌≡◌ {A = ℕ} 0 1 = cc in absurd (omega arith)
+    go (Some v) q e = let r : sign v ≡ l = cc in subst Named r (rw (is v) (number-named ds v q))
 
 pub word-named : (w : List ℕ) (l : Literal) → word_value w ≡ Names l → Named l
 unfolding word_value
@@ -73,35 +73,35 @@ word-named (b ∷ bs) l e = go (eqb b 45) (eqb b 48 && eqb (length bs) 0) e
     go false true e = let n : ◌≡◌ {A = ℕ} 0 1 = cc in absurd (omega arith)
     go false false e = literal-named Pos (λ v. refl) (b ∷ bs) l e
 
-words-named : (ws : List (List ℕ)) (s : Said) → say_words ws ≡ some s → All Named s.literals
+words-named : (ws : List (List ℕ)) (s : Said) → say_words ws ≡ Some s → All Named s.literals
 unfolding nothing_said
 words-named [] s e = let q : record { literals = []; closed = false } ≡ s = cc in subst (λ (x : Said). All Named x.literals) q tt
 words-named (w ∷ ws) s e = go (word_value w) refl (words-named ws) e
   where
-    with-literal : (l : Literal) → Named l → (o : Option Said) → say_words ws ≡ o → ((s : Said) → say_words ws ≡ some s → All Named s.literals)
-        → with_literal l o ≡ some s → All Named s.literals
-    with-literal l h none q ih e = let n : ◌≡◌ {A = ℕ} 0 1 = cc in absurd (omega arith)
-    with-literal l h (some r) q ih e =
+    with-literal : (l : Literal) → Named l → (o : Option Said) → say_words ws ≡ o → ((s : Said) → say_words ws ≡ Some s → All Named s.literals)
+        → with_literal l o ≡ Some s → All Named s.literals
+    with-literal l h None q ih e = let n : ◌≡◌ {A = ℕ} 0 1 = cc in absurd (omega arith)
+    with-literal l h (Some r) q ih e =
         let p : record { literals = l ∷ r.literals; closed = r.closed } ≡ s = cc in
         subst (λ (x : Said). All Named x.literals) p (h, ih r q)
 
-    closed-here : (vs : List (List ℕ)) → say_word Closing vs (say_words ws) ≡ some s → All Named s.literals
+    closed-here : (vs : List (List ℕ)) → say_word Closing vs (say_words ws) ≡ Some s → All Named s.literals
     closed-here [] e = let p : record { literals = []; closed = true } ≡ s = cc in subst (λ (x : Said). All Named x.literals) p tt
     closed-here (v ∷ vs) e = let n : ◌≡◌ {A = ℕ} 0 1 = cc in absurd (omega arith)
 
-    go : (x : Word) → word_value w ≡ x → ((s : Said) → say_words ws ≡ some s → All Named s.literals) → say_word x ws (say_words ws) ≡ some s → All Named s.literals
+    go : (x : Word) → word_value w ≡ x → ((s : Said) → say_words ws ≡ Some s → All Named s.literals) → say_word x ws (say_words ws) ≡ Some s → All Named s.literals
     go Malformed q ih e = let n : ◌≡◌ {A = ℕ} 0 1 = cc in absurd (omega arith)
     go Closing q ih e = closed-here ws e
     go (Names l) q ih e = with-literal l (word-named w l q) (say_words ws) refl ih e
 
-pub form-named : (line : List ℕ) (s : Said) → form_of line ≡ some s → All Named s.literals
+pub form-named : (line : List ℕ) (s : Said) → form_of line ≡ Some s → All Named s.literals
 unfolding form_of
 form-named line s e = go (words_of line) e
   where
-    go : (ws : List (List ℕ)) → after_v ws ≡ some s → All Named s.literals
+    go : (ws : List (List ℕ)) → after_v ws ≡ Some s → All Named s.literals
     go [] e = let n : ◌≡◌ {A = ℕ} 0 1 = cc in absurd (omega arith)
     go (w ∷ ws) e = tail (eqb (length w) 1) e
       where
-        tail : (b : Bool) → cond b (say_words ws) none ≡ some s → All Named s.literals
+        tail : (b : Bool) → cond b (say_words ws) None ≡ Some s → All Named s.literals
         tail true e = words-named ws s e
         tail false e = let n : ◌≡◌ {A = ℕ} 0 1 = cc in absurd (omega arith)

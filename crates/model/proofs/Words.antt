@@ -14,7 +14,8 @@ use lib.Bits.{bit_and, bit_or, bit_xor, differ, and_step, or_step, xor_step}
 use lib.Count.{ones, ones_step, ones-le}
 use lib.Pow.{pow_pos, mod-pow-add, shl_exact}
 use mathlib.Core.List.{List, [], ◌∷◌}
-use Rattle.model.specs.Lists.{every, any, total, range}
+use Rattle.std.specs.List.{list_all, list_any}
+use Rattle.model.specs.Lists.{total, range}
 use Rattle.model.specs.Limits.{limits}
 use Rattle.model.specs.Words.{full, less, size_in, size, inside, bit, has, word_where}
 use Rattle.model.specs.Solution.{union}
@@ -417,9 +418,9 @@ word_ext p q (suc n) h =
     ap₂ (λ (x y : ℕ). x + y) (word_ext p q n (λ e l. h e (omega arith))) (ap (λ (b : Bool). cond b (2 ^ n) 0) (h n (omega arith)))
 
 -- a within b, entrant by entrant, where a has none past n
-pub inside-words : (n a b : ℕ) → a < 2 ^ n → inside a b ≡ every (λ e. not (has a e) || has b e) (range 0 n)
+pub inside-words : (n a b : ℕ) → a < 2 ^ n → inside a b ≡ list_all (λ e. not (has a e) || has b e) (range 0 n)
 inside-words n a b small =
-    T-ext (inside a b) (every (λ e. not (has a e) || has b e) (range 0 n))
+    T-ext (inside a b) (list_all (λ e. not (has a e) || has b e) (range 0 n))
     (λ t. range-every (λ e. not (has a e) || has b e) 0 n (λ e _ _. to e (has a e) refl (sub-has a b (inside-sub a b t) e)))
     (λ t. sub-inside a b (has_sub a b (λ e h. from t e h (dec_lt e n))))
   where
@@ -431,13 +432,13 @@ inside-words n a b small =
     here e true p h t = t
     here e false p h t = absurd h
 
-    from : T (every (λ e. not (has a e) || has b e) (range 0 n)) → (e : ℕ) → T (has a e) → Dec (e < n) → T (has b e)
+    from : T (list_all (λ e. not (has a e) || has b e) (range 0 n)) → (e : ℕ) → T (has a e) → Dec (e < n) → T (has b e)
     from t e h (yes l) = here e (has a e) refl h (every-range (λ e. not (has a e) || has b e) 0 n t e (omega arith) (omega arith))
     from t e h (no l) = absurd (subst T (has-past n a e small (omega arith)) h)
 
 -- ---- the union
 
-pub has-union : (ws : List ℕ) (e : ℕ) → has (union ws) e ≡ any (λ w. has w e) ws
+pub has-union : (ws : List ℕ) (e : ℕ) → has (union ws) e ≡ list_any (λ w. has w e) ws
 unfolding union
 has-union [] e = has-zero e
 has-union (w ∷ ws) e = has-or w (union ws) e ∙ ap (λ b. has w e || b) (has-union ws e)

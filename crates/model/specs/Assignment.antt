@@ -1,10 +1,8 @@
 -- Solver lines: "Lines of the SAT competition output, without byte 10."
 use Rattle.std.specs.Prelude.{ℕ, ◌-◌, Bool, true, false, cond, not, ◌&&◌, ◌||◌, List, [], ◌∷◌, leb, ltb, eqb, length, get_or, set, drop}
-use Rattle.std.proofs.Math.Option.{Option, none, some}
+use Rattle.std.specs.Prelude.{Option, None, Some}
 use Rattle.model.specs.declared.Literal.{Literal}
 use Rattle.model.specs.declared.Literal.TheVariants.{Pos, Neg}
-use Rattle.model.specs.declared.Digits.{Digits}
-use Rattle.model.specs.declared.Digits.TheVariants.{Number, Bad}
 use Rattle.model.specs.declared.Word.{Word}
 use Rattle.model.specs.declared.Word.TheVariants.{Names, Closing, Malformed}
 use Rattle.model.specs.declared.Reading.{Reading}
@@ -21,11 +19,11 @@ words_of (b ∷ bs) = cond (eqb b 32) ([] ∷ words_of bs) (on_first b (words_of
 
 -- "no leading zero, up to 9 digits": the variable that digits name
 unfoldable pub variable_in : List ℕ → Option ℕ
-variable_in ds = cond (leb (length ds) 9 && not (eqb (get_or ds 0 0) 48)) (number_of ds) none
+variable_in ds = cond (leb (length ds) 9 && not (eqb (get_or ds 0 0) 48)) (number_of ds) None
 
 abbrev pub as_literal : (ℕ → Literal) → Option ℕ → Word
-as_literal sign none = Malformed
-as_literal sign (some v) = Names (sign v)
+as_literal sign None = Malformed
+as_literal sign (Some v) = Names (sign v)
 
 -- "minus sign optional"
 unfoldable pub word_value : List ℕ → Word
@@ -43,24 +41,24 @@ unfoldable pub nothing_said : Said
 nothing_said = record { literals = []; closed = false }
 
 abbrev pub with_literal : Literal → Option Said → Option Said
-with_literal l none = none
-with_literal l (some s) = some (record { literals = l ∷ s.literals; closed = s.closed })
+with_literal l None = None
+with_literal l (Some s) = Some (record { literals = l ∷ s.literals; closed = s.closed })
 
 -- a word in front of others, which say `rest`
 abbrev pub say_word : Word → List (List ℕ) → Option Said → Option Said
-say_word Malformed ws rest = none
-say_word Closing [] rest = some (record { literals = []; closed = true })
-say_word Closing (w ∷ ws) rest = none
+say_word Malformed ws rest = None
+say_word Closing [] rest = Some (record { literals = []; closed = true })
+say_word Closing (w ∷ ws) rest = None
 say_word (Names l) ws rest = with_literal l rest
 
 abbrev pub say_words : List (List ℕ) → Option Said
-say_words [] = some nothing_said
+say_words [] = Some nothing_said
 say_words (w ∷ ws) = say_word (word_value w) ws (say_words ws)
 
 -- the words of a line whose first byte is `v`: none where the form is bad
 abbrev pub after_v : List (List ℕ) → Option Said
-after_v [] = none
-after_v (w ∷ ws) = cond (eqb (length w) 1) (say_words ws) none
+after_v [] = None
+after_v (w ∷ ws) = cond (eqb (length w) 1) (say_words ws) None
 
 unfoldable pub form_of : List ℕ → Option Said
 form_of line = after_v (words_of line)
@@ -81,12 +79,8 @@ value_for (Neg v) = 2
 unfoldable pub with_value : Literal → List ℕ → List ℕ
 with_value l values = set values (variable l - 1) (value_for l)
 
--- "When an answer is an enum, a definition gives this paper's number and values for each of its cases": of a literal's digits and of a word, refusal 10;
--- of a word, the variable that it names, the value that it says (1 true, 2 false; both 0 where it is no literal), and whether it is the closing 0
-abbrev pub variable_refusal : Digits → ℕ
-variable_refusal (Number v) = 0
-variable_refusal Bad = 10
-
+-- "When an answer is an enum, a definition gives this paper's number and values for each of its cases": of a word, refusal 10,
+-- the variable that it names, the value that it says (1 true, 2 false; both 0 where it is no literal), and whether it is the closing 0
 abbrev pub word_refusal : Word → ℕ
 word_refusal (Names l) = 0
 word_refusal Closing = 0
@@ -115,8 +109,8 @@ unfoldable pub variable_said : List ℕ → Option ℕ
 variable_said w = variable_in (cond (has_minus w) (drop 1 w) w)
 
 abbrev pub signed : Bool → Option ℕ → ℕ
-signed minus none = 0
-signed minus (some v) = cond minus 2 1
+signed minus None = 0
+signed minus (Some v) = cond minus 2 1
 
 unfoldable pub is_zero : List ℕ → Bool
 is_zero w = eqb (get_or w 0 0) 48 && eqb (length w) 1
@@ -136,8 +130,8 @@ with_values (l ∷ ls) values = with_values ls (with_value l values)
 
 -- the refusal of a line of the form that it has
 abbrev pub said_refusal : Option Said → List ℕ → ℕ
-said_refusal none values = 10
-said_refusal (some s) values = literals_refusal s.literals values
+said_refusal None values = 10
+said_refusal (Some s) values = literals_refusal s.literals values
 
 -- "First byte `c` or `s`: passed over."
 unfoldable pub is_passed_over : List ℕ → Bool
@@ -154,8 +148,8 @@ unfoldable pub is_taken : Reading → List ℕ → List ℕ → Bool
 is_taken r line values = not (is_passed_over line) && eqb (call_refusal r line values) 0
 
 abbrev pub said_by : Option Said → Said
-said_by none = nothing_said
-said_by (some s) = s
+said_by None = nothing_said
+said_by (Some s) = s
 
 -- "a reading state as they got it"
 unfoldable pub line_read : Reading → List ℕ → List ℕ → LineRead

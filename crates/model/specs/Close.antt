@@ -7,7 +7,8 @@ use Rattle.model.specs.declared.Term.TheVariants.{Holds, Fails, Open}
 use Rattle.model.specs.declared.Model.{Model}
 use Rattle.model.specs.declared.Reading.{Reading}
 use Rattle.model.specs.declared.Closed.{Closed}
-use Rattle.model.specs.Lists.{every, any, range, stop}
+use Rattle.std.specs.List.{list_all, list_any}
+use Rattle.model.specs.Lists.{range, stop}
 use Rattle.model.specs.Words.{word_where}
 use Rattle.model.specs.Limits.{limits}
 use Rattle.model.specs.Model.{table_of}
@@ -30,10 +31,10 @@ term_true a (Open l) = literal_true a l
 
 -- "and is satisfying when every clause of the listing has a true literal"
 unfoldable pub clause_true : List Bool → List Literal → Bool
-clause_true a c = any (literal_true a) c
+clause_true a c = list_any (literal_true a) c
 
 unfoldable pub satisfying : Model → List Bool → Bool
-satisfying m a = every (clause_true a) (clauses m)
+satisfying m a = list_all (clause_true a) (clauses m)
 
 -- "per group the entrants fixed and the open ones whose variable is true. The assignment reads back as these."
 unfoldable pub group_by : Model → List Bool → ℕ → ℕ
@@ -55,7 +56,7 @@ unfoldable pub close_refusal : Model → Reading → List ℕ → ℕ
 close_refusal m r values =
     unsettled_or m
     (stop (not (eqb (length values) (variable_count m))) 26
-    (stop (not (r.closed && every is_said values)) 27
+    (stop (not (r.closed && list_all is_said values)) 27
     (stop (not (satisfying m (assignment_of values))) 28 0)))
 
 unfoldable pub closed : Model → Reading → List ℕ → Closed

@@ -8,7 +8,8 @@ use Rattle.model.specs.declared.Term.TheVariants.{Holds, Fails, Open}
 use Rattle.model.specs.declared.Group.{Group}
 use Rattle.model.specs.declared.Constraint.{Constraint}
 use Rattle.model.specs.declared.Model.{Model}
-use Rattle.model.specs.Lists.{each, total, range}
+use Rattle.std.specs.List.{flat_map}
+use Rattle.model.specs.Lists.{total, range}
 use Rattle.model.specs.Words.{less, size, has}
 use Rattle.model.specs.Clauses.{is_difference, member_clauses}
 use Rattle.model.specs.Model.{zero_constraint, group_at, member_at, table_of, constraints_of}
@@ -105,14 +106,14 @@ term_of f (Neg i) = opposite_term (f i)
 
 unfoldable pub clauses_at : ℕ → List Group → Constraint → ℕ → List (List Literal)
 clauses_at x t c e =
-    cond (is_apart t c) [] (each (λ ls. keep (map (term_of (constraint_term x t c e)) ls)) (member_clauses c.code c.count))
+    cond (is_apart t c) [] (flat_map (λ ls. keep (map (term_of (constraint_term x t c e)) ls)) (member_clauses c.code c.count))
 
 -- "The line's last clause holds all its X in rising order."
 unfoldable pub last_clause : ℕ → ℕ → List Group → Constraint → List (List Literal)
 last_clause n x t c = cond (is_open_difference t c) (keep (map (difference x t c) (range 0 n))) []
 
 unfoldable pub constraint_clauses : ℕ → List Group → ℕ → Constraint → List (List Literal)
-constraint_clauses n t x c = each (clauses_at x t c) (range 0 n) ++ last_clause n x t c
+constraint_clauses n t x c = flat_map (clauses_at x t c) (range 0 n) ++ last_clause n x t c
 
 -- the block of line j
 unfoldable pub line_clauses : Model → ℕ → List (List Literal)
@@ -123,7 +124,7 @@ line_clauses m j =
 -- ---- the blocks after block 0: those of groups 1..s, then "Line blocks follow"
 
 unfoldable pub node_blocks : Model → List (List (List Literal))
-node_blocks m = each (group_blocks (table_of m)) (range 1 m.s)
+node_blocks m = flat_map (group_blocks (table_of m)) (range 1 m.s)
 
 unfoldable pub block_clauses : Model → ℕ → List (List Literal)
 block_clauses m b =
@@ -138,7 +139,7 @@ block_count m = length (node_blocks m) + m.c
 
 -- every clause of the listing, in order
 unfoldable pub clauses : Model → List (List Literal)
-clauses m = each (block_clauses m) (range 1 (block_count m))
+clauses m = flat_map (block_clauses m) (range 1 (block_count m))
 
 -- "C is, per counter, T(m) + L + m - U, plus the line clauses not left out, entrants 1..n", a code 7 line's last included. Their number is the same
 -- wherever the X are numbered from

@@ -2,12 +2,13 @@
 -- solver's lines alone.
 use Rattle.std.specs.Prelude.{◌≡◌, ℕ, ◌+◌, Bool, false, cond, not, ◌&&◌, leb, ltb, eqb, length, get_or, take, drop}
 use mathlib.Core.List.{List, [], ◌∷◌, ◌++◌, Permᴰ}
-use Rattle.std.proofs.Math.Option.{Option, none, some}
+use Rattle.std.specs.Prelude.{Option, None, Some}
 use Rattle.model.specs.declared.Literal.{Literal}
 use Rattle.model.specs.declared.Group.{Group}
 use Rattle.model.specs.declared.Model.{Model}
 use Rattle.model.specs.declared.Reading.{Reading}
-use Rattle.model.specs.Lists.{every, any, pairwise, each, range, stop}
+use Rattle.std.specs.List.{list_all, list_any, flat_map}
+use Rattle.model.specs.Lists.{pairwise, range, stop}
 use Rattle.model.specs.Words.{inside}
 use Rattle.model.specs.Model.{table_of, constraints_of}
 use Rattle.model.specs.Sheet.{lines_of, read_sheet}
@@ -31,7 +32,7 @@ within a b = pairwise group_within a b
 -- "A table is unchanged when no rule changes it: neither the group rule on any group nor the line rule on any line."
 -- Request 6: "a table with such a line does not count as unchanged".
 unfoldable pub unchanged : Model → List Group → Bool
-unchanged m t = every (λ r. same_table (r t) t) (rules m.n m.s (constraints_of m)) && every (may_differ t) (constraints_of m)
+unchanged m t = list_all (λ r. same_table (r t) t) (rules m.n m.s (constraints_of m)) && list_all (may_differ t) (constraints_of m)
 
 -- a table that demand 3 compares: consistent, unchanged, and within the sheet's
 unfoldable pub is_candidate : Model → List Group → Bool
@@ -45,7 +46,7 @@ Accepted b m = read_sheet b ≡ record { refusal = 0; line = 0; model = m }
 
 -- lines as bytes, each with its byte 10
 unfoldable pub text_of : List (List ℕ) → List ℕ
-text_of ls = each (λ l. l ++ (10 ∷ [])) ls
+text_of ls = flat_map (λ l. l ++ (10 ∷ [])) ls
 
 -- "An order of it keeps the head and the group lines and permutes the constraint lines.": o is an order of the accepted sheet b, whose model is m
 pub record OrderOf (b o : List ℕ) (m : Model) : Type 0 where
@@ -69,7 +70,7 @@ unfoldable pub fresh_reading : Reading
 fresh_reading = record { closed = false }
 
 unfoldable pub is_fresh : Model → List ℕ → Bool
-is_fresh m values = eqb (length values) (variable_count m) && every (λ b. not (is_said b)) values
+is_fresh m values = eqb (length values) (variable_count m) && list_all (λ b. not (is_said b)) values
 
 -- "each call gets the reading state and the lent marks as the last call left them, a refused one included"
 unfoldable pub reading_after : List (List ℕ) → Reading → List ℕ → Reading
@@ -89,11 +90,11 @@ names l k = eqb (variable k) (variable l)
 -- 11 and 12 of literals in order, with V variables, after the literals said
 abbrev pub offence : ℕ → List Literal → List Literal → ℕ
 offence v said [] = 0
-offence v said (l ∷ ls) = stop (ltb v (variable l)) 11 (stop (any (names l) said) 12 (offence v (said ++ (l ∷ [])) ls))
+offence v said (l ∷ ls) = stop (ltb v (variable l)) 11 (stop (list_any (names l) said) 12 (offence v (said ++ (l ∷ [])) ls))
 
 abbrev pub form_offence : ℕ → List Literal → Option Said → ℕ
-form_offence v said none = 10
-form_offence v said (some f) = offence v said f.literals
+form_offence v said None = 10
+form_offence v said (Some f) = offence v said f.literals
 
 -- "Not refused are exactly the lines to which none of 10, 11, 12 and 25 applies; of the earlier lines, 12 and 25 count only those not refused."
 unfoldable pub refusal_after : ℕ → Said → List ℕ → ℕ
@@ -117,4 +118,4 @@ say_lines v said (line ∷ lines) = say_lines v (say_line v said line) lines
 unfoldable pub says : ℕ → List Literal → List Bool → Bool
 says v ls a =
     eqb (length a) v
-    && every (λ x. any (λ l. eqb (variable l) x && literal_true a l) ls) (range 1 v)
+    && list_all (λ x. list_any (λ l. eqb (variable l) x && literal_true a l) ls) (range 1 v)

@@ -5,7 +5,8 @@ use Rattle.std.specs.Int.Bits.{bit_and, bit_or}
 use Rattle.model.specs.declared.Group.{Group}
 use Rattle.model.specs.declared.Constraint.{Constraint}
 use Rattle.model.specs.declared.Model.{Model}
-use Rattle.model.specs.Lists.{those, each, each_pair, range, stop}
+use Rattle.std.specs.List.{flat_map}
+use Rattle.model.specs.Lists.{those, each_pair, range, stop}
 use Rattle.model.specs.Words.{less, has}
 use Rattle.model.specs.Model.{table_of, constraints_of}
 use Rattle.model.specs.Propagate.{unsettled_or}
@@ -64,7 +65,7 @@ difference_values n t d c = open_values n (differing t c) (one_of (member_set d 
 unfoldable pub assignment_for : Model → List ℕ → List Bool
 assignment_for m d =
     each_pair (variable_values m.n) (table_of m) d
-    ++ (each_pair (output_values m.n) (table_of m) d ++ each (difference_values m.n (table_of m) d) (constraints_of m))
+    ++ (each_pair (output_values m.n) (table_of m) d ++ flat_map (difference_values m.n (table_of m) d) (constraints_of m))
 
 -- the values of an assignment: "1 true, 2 false"
 abbrev pub value_of : Bool → ℕ

@@ -1,14 +1,6 @@
 -- Tests, sums and ranges over lists, which the definitions share.
-use Rattle.std.specs.Prelude.{ℕ, zero, suc, ◌+◌, Bool, true, false, not, ◌&&◌, ◌||◌, List, [], ◌∷◌, ◌++◌, leb, eqb}
-
--- every element passes a test; some element does
-abbrev pub every : {A : Type 0} → (A → Bool) → List A → Bool
-every p [] = true
-every p (x ∷ xs) = p x && every p xs
-
-abbrev pub any : {A : Type 0} → (A → Bool) → List A → Bool
-any p [] = false
-any p (x ∷ xs) = p x || any p xs
+use Rattle.std.specs.List.{list_any}
+use Rattle.std.specs.Prelude.{ℕ, zero, suc, ◌+◌, Bool, true, false, not, ◌&&◌, List, [], ◌∷◌, ◌++◌, leb, eqb}
 
 -- two lists of one length, element by element
 abbrev pub pairwise : {A B : Type 0} → (A → B → Bool) → List A → List B → Bool
@@ -21,11 +13,6 @@ pairwise p (x ∷ xs) (y ∷ ys) = p x y && pairwise p xs ys
 abbrev pub those : {A : Type 0} → (A → Bool) → List A → List A
 those p [] = []
 those p (x ∷ xs) = elim (p x) [ true ↦ x ∷ those p xs | false ↦ those p xs ]
-
--- what f makes of each element, in one list
-abbrev pub each : {A B : Type 0} → (A → List B) → List A → List B
-each f [] = []
-each f (x ∷ xs) = f x ++ each f xs
 
 -- what f makes of two lists, element by element, in one list
 abbrev pub each_pair : {A B C : Type 0} → (A → B → List C) → List A → List B → List C
@@ -52,7 +39,7 @@ on_place (suc i) r (x ∷ xs) = x ∷ on_place i r xs
 -- no number stands in the list twice
 abbrev pub distinct : List ℕ → Bool
 distinct [] = true
-distinct (x ∷ xs) = not (any (eqb x) xs) && distinct xs
+distinct (x ∷ xs) = not (list_any (eqb x) xs) && distinct xs
 
 -- a ≤ x ≤ b
 abbrev pub between : ℕ → ℕ → ℕ → Bool

@@ -4,7 +4,8 @@ use Rattle.std.specs.Prelude.{◌≡◌, ℕ, ◌-◌, ◌^◌, ◌≤◌, Bool,
 use Rattle.model.specs.declared.Group.{Group}
 use Rattle.model.specs.declared.Constraint.{Constraint}
 use Rattle.model.specs.declared.Model.{Model}
-use Rattle.model.specs.Lists.{every, between, distinct}
+use Rattle.std.specs.List.{list_all}
+use Rattle.model.specs.Lists.{between, distinct}
 use Rattle.model.specs.Words.{inside}
 use Rattle.model.specs.Limits.{limits, groups_for}
 use Rattle.model.specs.Clauses.{groups_of}
@@ -53,13 +54,13 @@ abbrev pub constraint_sized : Constraint → Bool
 constraint_sized c = leb limits.members (length c.groups)
 
 abbrev pub members_sized : Model → Bool
-members_sized m = every constraint_sized (constraints_of m)
+members_sized m = list_all constraint_sized (constraints_of m)
 
 -- the lists of groups and of constraints have the length of the array that they stand for, and each constraint's list at least the length of its own
 pub record Whole (m : Model) : Type 0 where
   pub groups : length m.groups ≡ limits.groups
   pub constraints : length m.constraints ≡ limits.constraints
-  pub members : T (every constraint_sized m.constraints)
+  pub members : T (list_all constraint_sized m.constraints)
 
 -- "low ≤ high ≤ n", no entrant past n, fixed within possible
 unfoldable pub group_in_range : ℕ → Group → Bool
@@ -71,10 +72,10 @@ unfoldable pub code_in_range : ℕ → ℕ → Bool
 code_in_range code k = between 1 7 code && (not (eqb code 6) || between 2 (limits.members - 1) k)
 
 unfoldable pub constraint_in_range : ℕ → Constraint → Bool
-constraint_in_range s c = code_in_range c.code c.count && every (between 1 s) (groups_of c) && distinct (groups_of c)
+constraint_in_range s c = code_in_range c.code c.count && list_all (between 1 s) (groups_of c) && distinct (groups_of c)
 
 -- refusal 20 is the opposite of this
 unfoldable pub in_range : Model → Bool
 in_range m =
     between 1 limits.entrants m.n && between 1 (groups_for m.n) m.s && leb m.c limits.constraints
-    && every (group_in_range m.n) (table_of m) && every (constraint_in_range m.s) (constraints_of m)
+    && list_all (group_in_range m.n) (table_of m) && list_all (constraint_in_range m.s) (constraints_of m)

@@ -7,7 +7,8 @@ use Rattle.model.specs.declared.Group.{Group}
 use Rattle.model.specs.declared.Constraint.{Constraint}
 use Rattle.model.specs.declared.Model.{Model}
 use Rattle.model.specs.declared.Propagated.{Propagated}
-use Rattle.model.specs.Lists.{every, pairwise, range, on_place, stop}
+use Rattle.std.specs.List.{list_all}
+use Rattle.model.specs.Lists.{pairwise, range, on_place, stop}
 use Rattle.model.specs.Words.{full, less, size, inside}
 use Rattle.model.specs.Clauses.{is_difference, clauses_of}
 use Rattle.model.specs.Model.{group_at, table_of, constraints_of, with_table, Sized, in_range}
@@ -110,11 +111,11 @@ unfoldable pub group_consistent : Group → Bool
 group_consistent g = inside g.fixed g.possible && leb g.low g.high
 
 unfoldable pub consistent : List Group → Bool
-consistent t = every group_consistent t
+consistent t = list_all group_consistent t
 
 -- what a table must pass after each pass: by request 6 "All settled alike is 21" too
 unfoldable pub tenable : List Constraint → List Group → Bool
-tenable cs t = consistent t && every (may_differ t) cs
+tenable cs t = consistent t && list_all (may_differ t) cs
 
 -- "If the pass changed nothing": sets and limits alike
 unfoldable pub same_group : Group → Group → Bool

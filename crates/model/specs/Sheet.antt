@@ -1,15 +1,15 @@
 -- The sheet reader: from bytes to a model, or to a refusal and the number of its line.
 use Rattle.std.specs.Prelude.{ℕ, ◌+◌, ◌-◌, ◌*◌, ◌/◌, ◌%◌, Bool, true, false, cond, not, ◌&&◌, List, [], ◌∷◌, ◌++◌, map, leb, ltb, eqb, length, get_or, take, drop, set, replicate}
-use Rattle.std.proofs.Math.Option.{Option, none, some}
+use Rattle.std.specs.Prelude.{Option, None, Some}
+use Rattle.std.specs.Option.{unwrap_or}
 use Rattle.model.specs.declared.Group.{Group}
 use Rattle.model.specs.declared.Constraint.{Constraint}
 use Rattle.model.specs.declared.Model.{Model}
-use Rattle.model.specs.declared.Digits.{Digits}
-use Rattle.model.specs.declared.Digits.TheVariants.{Number as Digits-as-Number, Bad as Digits-as-Bad}
 use Rattle.model.specs.declared.Field.{Field}
 use Rattle.model.specs.declared.Field.TheVariants.{Number, Blank, Bad}
 use Rattle.model.specs.declared.SheetRead.{SheetRead}
-use Rattle.model.specs.Lists.{every, between, distinct, range, stop}
+use Rattle.std.specs.List.{list_all}
+use Rattle.model.specs.Lists.{between, distinct, range, stop}
 use Rattle.model.specs.Words.{word_where}
 use Rattle.model.specs.Limits.{limits, groups_for}
 use Rattle.model.specs.Clauses.{member_count, groups_of}
@@ -39,26 +39,22 @@ after_spaces (b ∷ bs) = cond (eqb b 32) (after_spaces bs) (b ∷ bs)
 
 -- the number that digits stand for, after digits that stand for v
 abbrev pub digits_after : ℕ → List ℕ → Option ℕ
-digits_after v [] = some v
-digits_after v (d ∷ ds) = cond (between 48 57 d) (digits_after (v * 10 + (d - 48)) ds) none
-
-abbrev pub as_digits : Option ℕ → Digits
-as_digits none = Digits-as-Bad
-as_digits (some v) = Digits-as-Number v
+digits_after v [] = Some v
+digits_after v (d ∷ ds) = cond (between 48 57 d) (digits_after (v * 10 + (d - 48)) ds) None
 
 -- up to 9 digits, whose number fits a word of 32 bits
-unfoldable pub short_number : List ℕ → Digits
-short_number ds = cond (leb (length ds) 9) (as_digits (digits_after 0 ds)) Digits-as-Bad
+abbrev pub short_number : List ℕ → Option ℕ
+short_number ds = cond (leb (length ds) 9) (digits_after 0 ds) None
 
 -- one digit, or more of which the first is not 0
 unfoldable pub number_of : List ℕ → Option ℕ
 number_of ds =
-    cond (eqb (length ds) 0) none
-    (cond (ltb 1 (length ds) && eqb (get_or ds 0 0) 48) none (digits_after 0 ds))
+    cond (eqb (length ds) 0) None
+    (cond (ltb 1 (length ds) && eqb (get_or ds 0 0) 48) None (digits_after 0 ds))
 
 abbrev pub as_field : Option ℕ → Field
-as_field none = Bad
-as_field (some v) = Number v
+as_field None = Bad
+as_field (Some v) = Number v
 
 -- Request 3 of document 02: "The reading of a field must tell its callers "blank" as well as "number" and "bad"."
 unfoldable pub field_value : List ℕ → Field
@@ -66,11 +62,7 @@ field_value f =
     cond (not (eqb (length f) 4)) Bad
     (cond (eqb (length (after_spaces f)) 0) Blank (as_field (number_of (after_spaces f))))
 
--- "When an answer is an enum, a definition gives this paper's number and values for each of its cases": of digits, the number that they stand for
-abbrev pub digits_value : Digits → Option ℕ
-digits_value (Digits-as-Number v) = some v
-digits_value Digits-as-Bad = none
-
+-- "When an answer is an enum, a definition gives this paper's number and values for each of its cases":
 -- of a field in a mark column (true) or elsewhere (false), refusal 4 and its number: "Four spaces in a mark column now mean 1." "Four spaces elsewhere remain 4."
 abbrev pub field_refusal : Field → Bool → ℕ
 field_refusal (Number v) mark = 0
@@ -86,18 +78,17 @@ field_number Bad mark = 0
 
 -- a refusal where there is no number, and the number or 0
 abbrev pub if_none : ℕ → Option ℕ → ℕ
-if_none refusal none = refusal
-if_none refusal (some v) = 0
+if_none refusal None = refusal
+if_none refusal (Some v) = 0
 
 abbrev pub or_zero : Option ℕ → ℕ
-or_zero none = 0
-or_zero (some v) = v
+or_zero o = unwrap_or o 0
 
 -- the number of a field of four bytes, if it has one: in a mark column (true) or elsewhere
 unfoldable pub number_in : List ℕ → Bool → Option ℕ
 number_in f mark =
-    cond (not (eqb (length f) 4)) none
-    (cond (mark && eqb (length (after_spaces f)) 0) (some 1) (number_of (after_spaces f)))
+    cond (not (eqb (length f) 4)) None
+    (cond (mark && eqb (length (after_spaces f)) 0) (Some 1) (number_of (after_spaces f)))
 
 -- the number in field i of a line, where it is no mark column
 unfoldable pub value_at : List ℕ → ℕ → ℕ
@@ -115,7 +106,7 @@ unfoldable pub form_refusal : List ℕ → ℕ
 form_refusal l =
     stop (eqb (length l) 0) 3
     (stop (not (eqb (length l % 4) 0)) 3
-    (stop (not (every (good_field l) (range 0 (length l / 4)))) 4 0))
+    (stop (not (list_all (good_field l) (range 0 (length l / 4)))) 4 0))
 
 -- ---- "Head, 4 fields: 1, n (entrants, 1 to 32), s (groups, 1 to 256), c (constraint lines, 0 to 256)."; by request 7 "n goes to 64", and "With n above 32,
 -- s is at most 96, otherwise 7 in the head"
@@ -143,7 +134,7 @@ group_refusal n g l =
     (stop (not (eqb (length l / 4) (4 + n))) 6
     (stop (not (leb (value_at l 2) (value_at l 3))) 7
     (stop (not (leb (value_at l 3) n)) 7
-    (stop (not (every (λ e. leb (mark_at l e) 2) (range 0 n))) 7
+    (stop (not (list_all (λ e. leb (mark_at l e) 2) (range 0 n))) 7
     (stop (not (eqb (value_at l 1) g)) 8 0)))))
 
 -- "the possible ones (marks 1 and 2)"
@@ -190,7 +181,7 @@ constraint_refusal s l =
     stop (not (eqb (value_at l 0) 3)) 5
     (stop (not (code_in_range (value_at l 1) (count_from l))) 6
     (stop (not (eqb (length l / 4) (first_group l + group_count l))) 6
-    (stop (not (every (between 1 s) (groups_of (constraint_from l)))) 7
+    (stop (not (list_all (between 1 s) (groups_of (constraint_from l)))) 7
     (stop (not (distinct (groups_of (constraint_from l)))) 9 0))))
 
 -- constraint number j

@@ -5,7 +5,8 @@ use Rattle.model.specs.declared.Constraint.{Constraint}
 use Rattle.model.specs.declared.Model.{Model}
 use Rattle.model.specs.declared.Written.{Written}
 use Rattle.model.specs.declared.Written.TheVariants.{Bytes, Refused}
-use Rattle.model.specs.Lists.{each, range, stop}
+use Rattle.std.specs.List.{flat_map}
+use Rattle.model.specs.Lists.{range, stop}
 use Rattle.model.specs.Words.{has}
 use Rattle.model.specs.Limits.{limits}
 use Rattle.model.specs.Clauses.{member_count, groups_of}
@@ -39,10 +40,10 @@ sheet_fields m =
 -- ---- "Lines end with byte 10. A line is a row of fields"
 
 unfoldable pub line_text : List ℕ → List ℕ
-line_text fields = each field_text fields ++ (10 ∷ [])
+line_text fields = flat_map field_text fields ++ (10 ∷ [])
 
 unfoldable pub sheet_text : Model → List ℕ
-sheet_text m = each line_text (sheet_fields m)
+sheet_text m = flat_map line_text (sheet_fields m)
 
 -- ---- what the text tells of a model: the reader's zeros past s, c and a line's groups, and no count but code 6's
 

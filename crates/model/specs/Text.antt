@@ -5,7 +5,8 @@ use Rattle.model.specs.declared.Literal.TheVariants.{Pos, Neg}
 use Rattle.model.specs.declared.Model.{Model}
 use Rattle.model.specs.declared.Written.{Written}
 use Rattle.model.specs.declared.Written.TheVariants.{Bytes, Refused}
-use Rattle.model.specs.Lists.{any, each, range, is_empty, stop}
+use Rattle.std.specs.List.{list_any, flat_map}
+use Rattle.model.specs.Lists.{range, is_empty, stop}
 use Rattle.model.specs.Propagate.{unsettled_or}
 use Rattle.model.specs.Cnf.{variable_count, node_blocks, block_count, clause_count, block_clauses}
 
@@ -30,7 +31,7 @@ literal_text (Pos v) = decimal v ++ (32 ∷ [])
 literal_text (Neg v) = 45 ∷ decimal v ++ (32 ∷ [])
 
 unfoldable pub clause_text : List Literal → List ℕ
-clause_text c = each literal_text c ++ (48 ∷ 10 ∷ [])
+clause_text c = flat_map literal_text c ++ (48 ∷ 10 ∷ [])
 
 -- ---- "Block 0 is `p cnf V C` and byte 10"
 
@@ -43,18 +44,18 @@ header_text m =
 unfoldable pub block_text : Model → ℕ → List ℕ
 block_text m b =
     let header = header_text m in
-    let body = each clause_text (block_clauses m b) in
+    let body = flat_map clause_text (block_clauses m b) in
     cond (eqb b 0) header body
 
 -- "The listing is all its blocks, from 0 up."
 unfoldable pub listing : Model → List ℕ
-listing m = each (block_text m) (range 0 (block_count m + 1))
+listing m = flat_map (block_text m) (range 0 (block_count m + 1))
 
 -- ---- the block writer, for a buffer of `room` bytes: "block 20, 22, 23, 29, 24"
 
 -- "29 a line clause without literals"
 unfoldable pub has_empty_clause : Model → ℕ → Bool
-has_empty_clause m b = ltb (length (node_blocks m)) b && any is_empty (block_clauses m b)
+has_empty_clause m b = ltb (length (node_blocks m)) b && list_any is_empty (block_clauses m b)
 
 unfoldable pub block_refusal : Model → ℕ → ℕ → ℕ
 block_refusal m b room =

@@ -8,7 +8,8 @@ use Rattle.model.specs.declared.Term.TheVariants.{Holds, Fails, Open}
 use Rattle.model.specs.declared.Printed.{Printed}
 use Rattle.model.specs.declared.Formed.{Formed}
 use Rattle.model.specs.declared.Node.{Node}
-use Rattle.model.specs.Lists.{any, each, range}
+use Rattle.std.specs.List.{list_any, flat_map}
+use Rattle.model.specs.Lists.{range}
 
 -- ---- literals of which some are known
 
@@ -34,7 +35,7 @@ literals (Open l ∷ ts) = l ∷ literals ts
 
 -- "A clause with a true literal is left out, a false literal dropped; so too in line clauses": no clause or one
 unfoldable pub keep : List Term → List (List Literal)
-keep ts = cond (any holds ts) [] (literals ts ∷ [])
+keep ts = cond (list_any holds ts) [] (literals ts ∷ [])
 
 -- ---- a node's clauses, in the three steps of document 001, section 6.4: node N with children C¹ and C², which document 01 calls C and D, and p and q for α and β
 
@@ -67,14 +68,14 @@ put_in t p q = node_terms t (formed p q).up ∷ node_terms t (formed p q).down �
 
 -- Third step, what is known dropped, as `keep` has it: "A clause with a true literal is left out, a false literal dropped"
 unfoldable pub dropped : Node → ℕ → ℕ → List (List Literal)
-dropped t p q = each keep (put_in t p q)
+dropped t p q = flat_map keep (put_in t p q)
 
 -- "for p = 0..a, within it q = 0..b"
 unfoldable pub row_clauses : Node → ℕ → List (List Literal)
-row_clauses t p = each (dropped t p) (range 0 (suc t.b))
+row_clauses t p = flat_map (dropped t p) (range 0 (suc t.b))
 
 unfoldable pub node_clauses : Node → List (List Literal)
-node_clauses t = each (row_clauses t) (range 0 (suc t.a))
+node_clauses t = flat_map (row_clauses t) (range 0 (suc t.a))
 
 -- ---- the tree
 

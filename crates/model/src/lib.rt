@@ -2,23 +2,22 @@
 // Everything above is built on this crate: its specs/ hold every definition of document 01.
 #![tactic(auto)]
 
-ghost use Rattle.std.specs.Prelude.{◌≡◌, ◌≤◌, min, cond, T, leb, length};
-ghost use Rattle.std.proofs.Math.Option.{none};
-ghost use Rattle.model.specs.Lists.{every};
+ghost use Rattle.std.specs.Prelude.{◌≡◌, ◌≤◌, min, cond, T, leb, eqb, length};
+ghost use Rattle.std.specs.List.{list_all, position_or_len};
 ghost use Rattle.model.specs.Limits.{limits, groups_for};
 ghost use Rattle.model.specs.Words.{full, less};
-ghost use Rattle.model.specs.Sheet.{digits_after, short_number, digits_value};
+ghost use Rattle.model.specs.Sheet.{short_number};
 ghost use Rattle.model.specs.Model.{zero_model, constraint_sized};
 
 // "F" and "-F" of document 01: of a member of a constraint, of a group, of a variable, or of an output by its index.
-#[derive(Clone, Copy)]
+#[derive(Clone, Copy, PartialEq, Eq)]
 pub enum Literal {
     Pos(u32),
     Neg(u32),
 }
 
 // A literal of which some are known before the solver runs.
-#[derive(Clone, Copy)]
+#[derive(Clone, Copy, PartialEq, Eq)]
 pub enum Term {
     Holds,
     Fails,
@@ -51,7 +50,7 @@ pub struct Node {
 }
 
 // Source 001's group record. Entrant e is bit e - 1 of a word.
-#[derive(Clone, Copy)]
+#[derive(Clone, Copy, PartialEq, Eq)]
 pub struct Group {
     pub fixed: u64,
     pub possible: u64,
@@ -77,15 +76,8 @@ pub struct Model {
     pub constraints: [Constraint; Model::CONSTRAINTS],
 }
 
-// What digits stand for: those of a field of a sheet, or of a literal of a solver's line without its sign.
-#[derive(Clone, Copy)]
-pub enum Digits {
-    Number(u32),
-    Bad,
-}
-
 // What stands in a field of a sheet.
-#[derive(Clone, Copy)]
+#[derive(Clone, Copy, PartialEq, Eq)]
 pub enum Field {
     Number(u32),
     Blank,
@@ -109,14 +101,14 @@ pub struct Propagated {
 }
 
 // The block writer's answer: the length of the block's text, or a refusal.
-#[derive(Clone, Copy)]
+#[derive(Clone, Copy, PartialEq, Eq)]
 pub enum Written {
     Bytes(usize),
     Refused(u32),
 }
 
 // A word of a `v` line: a literal, the closing 0, or neither.
-#[derive(Clone, Copy)]
+#[derive(Clone, Copy, PartialEq, Eq)]
 pub enum Word {
     Names(Literal),
     Closing,
@@ -231,7 +223,7 @@ impl Model {
 
 // The arrays of a model have the lengths of their types, and so have its constraints' own.
 pub fn whole(groups: [Group; Model::GROUPS], constraints: [Constraint; Model::CONSTRAINTS])
-    ensures { (length groups ≡ limits.groups) × (length constraints ≡ limits.constraints) × T (every constraint_sized constraints) }
+    ensures { (length groups ≡ limits.groups) × (length constraints ≡ limits.constraints) × T (list_all constraint_sized constraints) }
 {}
 
 // The most groups of a sheet of n entrants.
@@ -251,7 +243,7 @@ pub fn entrants(n: u32) -> u64
     if n < Model::WORD {
         return (1 << n) - 1;
     }
-    18446744073709551615
+    u64::MAX
 }
 
 // Those of a who are not in b.
@@ -261,27 +253,26 @@ pub fn without(a: u64, b: u64) -> u64
     a & !b
 }
 
-// The number that digits stand for, up to 9 of them: of a field of a sheet, and of a literal of a solver's line.
-pub fn decimal(d: &[u8]) -> Digits
-    ensures value { result ≡ short_number d.now }
-    ensures result_value { digits_value result ≡ cond (leb (length d.now) 9) (digits_after 0 d.now) none }
+// How many bytes stand before the first that is `byte`.
+pub fn length_before(bytes: &[u8], byte: u8) -> usize
+    ensures { result ≡ position_or_len (λ b. eqb b byte) bytes.now }
 {
-    let n = d.len();
-    if 9 < n {
-        return Digits::Bad;
+    bytes.iter().position(|b| *b == byte).unwrap_or(bytes.len())
+}
+
+// The number that digits stand for, up to 9 of them: of a field of a sheet, and of a literal of a solver's line.
+pub fn decimal(d: &[u8]) -> Option<u32>
+    ensures { result ≡ short_number d.now }
+{
+    if 9 < d.len() {
+        return None;
     }
     let mut v: u32 = 0;
-    let mut i: usize = 0;
-    while i < n {
-        let b = d[i];
-        if b < 48 {
-            return Digits::Bad;
+    for b in d {
+        if !b.is_ascii_digit() {
+            return None;
         }
-        if 57 < b {
-            return Digits::Bad;
-        }
-        v = v * 10 + (b - 48) as u32;
-        i += 1;
+        v = v * 10 + u32::from(b - b'0');
     }
-    Digits::Number(v)
+    Some(v)
 }

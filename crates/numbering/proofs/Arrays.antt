@@ -10,11 +10,17 @@ use borrow.Author.Tests.{lt-ltb, le-ltb}
 use lib.Dec.{ltb}
 use lib.ListN.{length, get_or, set, take, length-take}
 use lib.Seq.{take-suc, take_all, get_or-take}
+use Rattle.std.specs.List.{range_with_len}
 use Rattle.model.specs.Lists.{range, total}
 use Rattle.model.proofs.Lists.{total-append, range-get_or, range_length}
 
 pub next-take : {A : Type 0} (xs : List A) (i : ℕ) (d : A) → i < length xs → take (i + 1) xs ≡ take i xs ++ get_or xs i d ∷ []
 next-take xs i d h = ap (λ (n : ℕ). take n xs) (add-one i) ∙ take-suc xs i d h
+
+-- the two words for a range
+pub ranges : (a n : ℕ) → range_with_len a n ≡ range a n
+ranges a zero = refl
+ranges a (suc n) = rw (ranges (a + 1) n, add-one)
 
 -- ---- filling
 

@@ -1,17 +1,14 @@
 -- Laws of a group's totalizer: m, L, U, and how many outputs. Assumes nothing.
 use mathlib.Core.Path.{◌≡◌, refl, ap, ap₂, ◌∙◌}
 use mathlib.Core.Bool.{Bool, true, false, cond, ◌||◌}
-use mathlib.Core.List.{List}
 use Prim.Native.Nat.{ℕ, zero, suc, ◌+◌, ◌-◌, ◌*◌, ◌/◌, ◌≤◌, ◌<◌}
 use native.Mathlib.Omega.{arith}
-use borrow.Author.Tests.{lt-ltb, le-ltb, le-leb, lt-leb}
+use borrow.Author.Tests.{lt-ltb, le-ltb, le-leb}
 use lib.Dec.{leb, ltb}
-use lib.ListN.{take}
 use Rattle.model.specs.declared.Group.{Group}
-use Rattle.model.specs.Lists.{total}
 use Rattle.model.specs.Limits.{limits}
 use Rattle.model.specs.Totalizer.{output_count_in, tree_output_count}
-use Rattle.model.specs.Cnf.{open_count, at_least, at_most, counted, outputs_of, first_variable, first_output}
+use Rattle.model.specs.Cnf.{open_count, at_least, at_most, counted, outputs_of}
 use Rattle.encoding_laws.proofs.Counts.{output-count-step}
 use Rattle.encoding_laws.proofs.Bounds.{outputs_mono}
 use Rattle.numbering.specs.declared.Totalizer.{Totalizer}
@@ -109,16 +106,3 @@ outputs-few = omega arith
 
 pub within_word : (m : ℕ) → m ≤ limits.word → cond (leb m limits.word) (tree_output_count m) 0 ≡ tree_output_count m
 within_word m h = rw (le-leb m limits.word h)
-
-pub past_word : (m : ℕ) → limits.word < m → 0 ≡ cond (leb m limits.word) (tree_output_count m) 0
-past_word m h = rw (lt-leb m limits.word h)
-
--- ---- the first number of group i + 1
-
-pub variable-at : (t : List Group) (i next : ℕ) → next ≡ 1 + total open_count (take i t) → next ≡ first_variable t (1 + i)
-unfolding first_variable
-variable-at t i next e = let q : i ≡ 1 + i - 1 = omega arith in e ∙ ap (λ (k : ℕ). 1 + total open_count (take k t)) q
-
-pub output-at : (t : List Group) (i next : ℕ) → next ≡ 1 + total open_count t + total outputs_of (take i t) → next ≡ first_output t (1 + i)
-unfolding first_output
-output-at t i next e = let q : i ≡ 1 + i - 1 = omega arith in e ∙ ap (λ (k : ℕ). 1 + total open_count t + total outputs_of (take k t)) q

@@ -14,6 +14,10 @@ use Rattle.numbering.specs.declared.Numbering.{Numbering}
 unfoldable pub totalizer_of : Group → Totalizer
 totalizer_of g = record { size = open_count g; low = at_least g; high = at_most g; exists = counted g }
 
+-- the first number of each of n items, of which the first are xs, where the numbers start at base and an item has as many as f says
+abbrev pub numbers_from : {A : Type 0} → (A → ℕ) → ℕ → ℕ → List A → List ℕ
+numbers_from f n base xs = map (λ j. base + total f (take (j - 1) xs)) (range 1 n)
+
 -- the first variable of each group, and the first output of its totalizer
 unfoldable pub first_variables : List Group → List ℕ
 first_variables t = map (first_variable t) (range 1 limits.groups)

@@ -2,14 +2,14 @@
 // block writer, closing and filling.
 #![tactic(auto)]
 
-ghost use Rattle.std.specs.Prelude.{◌≡◌, cond, ◌+◌, ◌*◌, ◌-◌, ◌≤◌, leb, take};
+ghost use Rattle.std.specs.Prelude.{◌≡◌, ℕ, cond, ◌+◌, ◌*◌, ◌^◌, ◌≤◌, leb, take};
+ghost use Rattle.std.specs.Fn.{FnReturnsAt};
 ghost use Rattle.model.specs.Lists.{total};
 ghost use Rattle.model.specs.Limits.{limits};
-ghost use Rattle.model.specs.Words.{size};
+ghost use Rattle.model.specs.Model.{group_at};
 ghost use Rattle.model.specs.Totalizer.{tree_output_count};
 ghost use Rattle.model.specs.Cnf.{open_count, outputs_of, difference_count};
-ghost use Rattle.difference.specs.Pair.{differing_of};
-ghost use Rattle.numbering.specs.Numbering.{totalizer_of, first_variables, first_outputs, differences_from, numbering_of};
+ghost use Rattle.numbering.specs.Numbering.{totalizer_of, numbers_from, numbering_of};
 
 use model::{Constraint, Group, Model};
 
@@ -19,20 +19,11 @@ use model::{Constraint, Group, Model};
 fn open_count(g: Group) -> u32
     ensures { (result ≡ open_count g) × (result ≤ limits.word) }
 {
-    u64::count_ones(g.possible ^ (g.possible & g.fixed))
-}
-
-// a less b, and 0 where b is larger.
-fn less(a: u32, b: u32) -> u32
-    ensures { result ≡ a - b }
-{
-    if a < b {
-        return 0;
-    }
-    a - b
+    model::without(g.possible, g.fixed).count_ones()
 }
 
 // m, L and U of a group, and whether it has a totalizer.
+// `exists` stays beside the sizes: the definition `totalizer_of` and the crates above name the field.
 #[derive(Clone, Copy)]
 pub struct Totalizer {
     pub size: u32,
@@ -46,9 +37,9 @@ pub fn totalizer_of(g: Group) -> Totalizer
     ensures size_le_word { result.size ≤ limits.word }
 {
     let size = open_count(g);
-    let fixed = u64::count_ones(g.fixed);
-    let low = less(g.low, fixed);
-    let high = less(g.high, fixed);
+    let fixed = g.fixed.count_ones();
+    let low = g.low.saturating_sub(fixed);
+    let high = g.high.saturating_sub(fixed);
     let exists = 0 < low || high < size;
     Totalizer {
         size,
@@ -78,11 +69,8 @@ fn outputs_by_halves(m: u32) -> Outputs
             more: m + m,
         };
     }
-    let a = m / 2;
-    let h = outputs_by_halves(a);
-    let x = h.own;
-    let y = h.more;
-    if a + a < m {
+    let Outputs { own: x, more: y } = outputs_by_halves(m / 2);
+    if m % 2 == 1 {
         return Outputs {
             own: m + x + y,
             more: m + 1 + y + y,
@@ -101,12 +89,11 @@ pub fn output_count(m: u32) -> u32
     if Model::WORD < m {
         return 0;
     }
-    let h = outputs_by_halves(m);
-    h.own
+    outputs_by_halves(m).own
 }
 
 fn outputs_of(g: Group) -> u32
-    ensures { (result ≡ outputs_of g) × (result ≤ tree_output_count limits.word) }
+    ensures { (result ≡ outputs_of g) × (result ≤ limits.word * limits.word) }
 {
     let t = totalizer_of(g);
     if !t.exists {
@@ -115,114 +102,48 @@ fn outputs_of(g: Group) -> u32
     output_count(t.size)
 }
 
-// ---- all groups
+// ---- a constraint
 
-// 0 where a group does not count.
-fn open_where(counts: bool, g: Group) -> u32
-    ensures { (result ≡ cond counts (open_count g) 0) × (result ≤ limits.word) }
+// How many entrants have a variable X.
+fn difference_count(groups: &[Group; Model::GROUPS], s: usize, c: &Constraint) -> u32
+    ensures { (result ≡ difference_count (take s groups.now) c.now) × (result ≤ limits.word) }
 {
-    if counts {
-        return open_count(g);
-    }
-    0
+    let f = difference::group_at(groups, s, c.groups[0]);
+    let g = difference::group_at(groups, s, c.groups[1]);
+    difference::differing_of(*c, f, g).count_ones()
 }
 
-fn outputs_where(counts: bool, g: Group) -> u32
-    ensures { (result ≡ cond counts (outputs_of g) 0) × (result ≤ tree_output_count limits.word) }
-{
-    if counts {
-        return outputs_of(g);
-    }
-    0
-}
+// ---- a model
 
-// A number for each group, and the next free one.
+// A number for each item, and the next free one.
 #[derive(Clone, Copy)]
-struct Numbered {
-    first: [u32; Model::GROUPS],
+struct Numbered<const N: usize> {
+    first: [u32; N],
     next: u32,
 }
 
-// The first variable of each group, of which the first s count.
-fn number_open(groups: [Group; Model::GROUPS], s: u32) -> Numbered
-    ensures { (result.first ≡ first_variables (take s groups)) × (result.next ≡ 1 + total open_count (take s groups)) × (result.next ≤ 1 + limits.groups * limits.word) }
-{
-    let mut first = [0; Model::GROUPS];
-    let mut next = 1;
-    let mut i: usize = 0;
-    while i < Model::GROUPS {
-        first[i] = next;
-        let g = groups[i];
-        next += open_where(i < s as usize, g);
-        i += 1;
-    }
-    Numbered { first, next }
-}
-
-// The first output of each group's totalizer, had it one, from the number after the open entrants' on.
-fn number_outputs(groups: [Group; Model::GROUPS], s: u32, from: u32) -> Numbered
-    requires { (from ≡ 1 + total open_count (take s groups)) × (from ≤ 1 + limits.groups * limits.word) }
-    ensures { (result.first ≡ first_outputs (take s groups)) × (result.next ≡ from + total outputs_of (take s groups)) × (result.next ≤ from + limits.groups * (limits.word * limits.word)) }
-{
-    let mut first = [0; Model::GROUPS];
-    let mut next = from;
-    let mut i: usize = 0;
-    while i < Model::GROUPS {
-        first[i] = next;
-        let g = groups[i];
-        next += outputs_where(i < s as usize, g);
-        i += 1;
-    }
-    Numbered { first, next }
-}
-
-// ---- all constraints
-
-// How many entrants have a variable X, of a constraint with the first two groups f and g; 0 where it does not count.
-fn differing_where(counts: bool, c: Constraint, f: Group, g: Group) -> u32
-    ensures { (result ≡ cond counts (size (differing_of c f g)) 0) × (result ≤ limits.word) }
-{
-    if counts {
-        return u64::count_ones(difference::differing_of(c, f, g));
-    }
-    0
-}
-
-// A number for each constraint, and the next free one.
-#[derive(Clone, Copy)]
-struct Differences {
-    first: [u32; Model::CONSTRAINTS],
-    next: u32,
-}
-
-// The first X of each constraint, of which the first c count, from the number after the outputs' on.
-fn number_differences(
-    groups: [Group; Model::GROUPS],
+// The numbers from `from` on: each of the first s items takes as many as it has.
+fn number_all<T, F: Fn(&T) -> u32, const N: usize>(
+    items: &[T; N],
     s: usize,
-    constraints: [Constraint; Model::CONSTRAINTS],
-    c: usize,
     from: u32,
-) -> Differences
-    requires { from ≤ 1 + limits.groups * limits.word + limits.groups * (limits.word * limits.word) }
-    ensures { (result.first ≡ differences_from from (take s groups) (take c constraints)) × (result.next ≡ from + total (difference_count (take s groups)) (take c constraints)) }
+    count: F,
+) -> Numbered<N>
+    requires callable { F.IsAlwaysCallable count }
+    requires small { (x : _) (r : ℕ) → FnReturnsAt F.Fn count x r → r ≤ limits.word * limits.word }
+    requires room { (N ≤ limits.groups) × (from ≤ 2 ^ 22) }
+    ensures numbers { (f : _ → ℕ) → ((x : _) (r : ℕ) → FnReturnsAt F.Fn count x r → r ≡ f x) → (result.first ≡ numbers_from f N from (take s items.now)) × (result.next ≡ from + total f (take s items.now)) }
+    ensures few { result.next ≤ from + N * (limits.word * limits.word) }
 {
-    let mut first = [0; Model::CONSTRAINTS];
+    let mut first = [0; N];
     let mut next = from;
-    let mut j: usize = 0;
-    while j < Model::CONSTRAINTS {
-        first[j] = next;
-        let l = constraints[j];
-        let ids = l.groups;
-        let a = difference::slot(ids[0]);
-        let x = groups[a];
-        let f = difference::member(x, s, ids[0]);
-        let b = difference::slot(ids[1]);
-        let y = groups[b];
-        let g = difference::member(y, s, ids[1]);
-        next += differing_where(j < c, l, f, g);
-        j += 1;
+    for (i, x) in items.iter().enumerate() {
+        first[i] = next;
+        if i < s {
+            next += count(x);
+        }
     }
-    Differences { first, next }
+    Numbered { first, next }
 }
 
 // The first variable and the first output of each group, the first X of each constraint, and V.
@@ -237,11 +158,16 @@ pub struct Numbering {
 pub fn of_model(m: Model) -> Numbering
     ensures { result ≡ numbering_of m }
 {
-    let groups = m.groups;
-    let constraints = m.constraints;
-    let v = number_open(groups, m.s);
-    let o = number_outputs(groups, m.s, v.next);
-    let x = number_differences(groups, m.s as usize, constraints, m.c as usize, o.next);
+    let groups = &m.groups;
+    let s = m.s as usize;
+    let v = number_all(groups, s, 1, |g| open_count(*g));
+    let o = number_all(groups, s, v.next, |g| outputs_of(*g));
+    let x = number_all(
+        &m.constraints,
+        m.c as usize,
+        o.next,
+        |c| difference_count(groups, s, c),
+    );
     let first = v.first;
     let outputs = o.first;
     let differences = x.first;

@@ -5,7 +5,7 @@ use Rattle.model.specs.declared.Constraint.{Constraint}
 use Rattle.model.specs.declared.Model.{Model}
 use Rattle.model.specs.declared.Written.{Written}
 use Rattle.model.specs.declared.Closed.{Closed}
-use Rattle.model.specs.Lists.{each}
+use Rattle.std.specs.List.{flat_map}
 use Rattle.model.specs.Limits.{limits}
 use Rattle.model.specs.Text.{written_refusal, written_length}
 
@@ -38,14 +38,14 @@ has_room s room = leb s limits.groups && leb (4 * s) room
 
 -- the words of the first s groups at the front, where they fit
 unfoldable pub groups_laid : List Group → ℕ → List ℕ → List ℕ
-groups_laid groups s table = cond (has_room s (length table)) (each group_words (take s groups) ++ drop (4 * s) table) table
+groups_laid groups s table = cond (has_room s (length table)) (flat_map group_words (take s groups) ++ drop (4 * s) table) table
 
 abbrev pub constraint_words : Constraint → List ℕ
 constraint_words c = c.code ∷ c.count ∷ c.groups
 
 -- a model: n, s, c, its groups and its constraints, all of them, used or not
 unfoldable pub model_words : Model → List ℕ
-model_words m = (m.n ∷ m.s ∷ m.c ∷ []) ++ (each group_words m.groups ++ each constraint_words m.constraints)
+model_words m = (m.n ∷ m.s ∷ m.c ∷ []) ++ (flat_map group_words m.groups ++ flat_map constraint_words m.constraints)
 
 -- how many words that are
 abbrev pub model_size : ℕ

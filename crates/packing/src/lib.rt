@@ -1,9 +1,9 @@
 // An answer packed for a caller outside: one number, and words at the front of a slice that is lent.
 #![tactic(auto)]
 
-ghost use Rattle.std.specs.Prelude.{◌≡◌, [], ◌∷◌, ◌++◌, ◌+◌, ◌*◌, ◌≤◌, leb, length, take, drop};
+ghost use Rattle.std.specs.Prelude.{◌≡◌, ◌++◌, ◌+◌, ◌*◌, ◌≤◌, leb, length, take, drop};
 ghost use Rattle.std.proofs.lemmas.List.Edits.{sets};
-ghost use Rattle.model.specs.Lists.{each};
+ghost use Rattle.std.specs.List.{flat_map};
 ghost use Rattle.model.specs.Limits.{limits};
 ghost use Rattle.packing.specs.Packing.{numbered, written_number, run_number, line_number, group_words, has_room, groups_laid, constraint_words, model_size, model_laid, fitted_closing, groups_after};
 
@@ -51,33 +51,32 @@ pub fn line_number(refusal: u32, closed: bool) -> u64
 // ---- words
 
 // The four words of a group, from place `at` on.
-fn put_group(g: Group, at: usize, table: &mut [u64])
+fn put_group(g: &Group, at: usize, table: &mut [u64])
     requires { at + 4 ≤ length table.old }
-    ensures { table.new ≡ sets table.old at (group_words g) }
+    ensures { table.new ≡ sets table.old at (group_words g.now) }
 {
     table[at] = g.fixed;
     table[at + 1] = g.possible;
-    table[at + 2] = g.low as u64;
-    table[at + 3] = g.high as u64;
+    table[at + 2] = u64::from(g.low);
+    table[at + 3] = u64::from(g.high);
 }
 
 // The words of the first s groups, from place `at` on.
-fn lay_groups(groups: [Group; Model::GROUPS], s: usize, at: usize, table: &mut [u64])
+fn lay_groups(groups: &[Group; Model::GROUPS], s: usize, at: usize, table: &mut [u64])
     requires { (s ≤ limits.groups) × (at + 4 * s ≤ length table.old) }
-    ensures { table.new ≡ sets table.old at (each group_words (take s groups)) }
+    ensures table_after { table.new ≡ sets table.old at (flat_map group_words (take s groups.now)) }
+    ensures groups_len { length groups.now ≡ limits.groups }
 {
-    let mut i: usize = 0;
-    while i < s {
-        let g = groups[i];
-        put_group(g, at + 4 * i, table);
-        i += 1;
+    for i in 0..s {
+        put_group(&groups[i], at + 4 * i, table);
     }
 }
 
 // The words of the first s groups at the front of a table that has room for them; else false, and the table is left.
-pub fn put_groups(groups: [Group; Model::GROUPS], s: usize, table: &mut [u64]) -> bool
+#[tactic(auto, unfolding(crate::specs::Packing::has_room, crate::specs::Packing::groups_laid))]
+pub fn put_groups(groups: &[Group; Model::GROUPS], s: usize, table: &mut [u64]) -> bool
     ensures value { result ≡ has_room s (length table.old) }
-    ensures table_after { table.new ≡ groups_laid groups s table.old }
+    ensures table_after { table.new ≡ groups_laid groups.now s table.old }
 {
     if Model::GROUPS < s {
         return false;
@@ -90,90 +89,70 @@ pub fn put_groups(groups: [Group; Model::GROUPS], s: usize, table: &mut [u64]) -
 }
 
 // The numbers of a constraint's groups, from place `at` on.
-fn put_members(ids: [u32; Model::MEMBERS], at: usize, words: &mut [u64])
+fn put_members(ids: &[u32; Model::MEMBERS], at: usize, words: &mut [u64])
     requires { at + limits.members ≤ length words.old }
-    ensures words_after { words.new ≡ sets words.old at ids }
-    ensures ids_len { length ids ≡ limits.members }
+    ensures { words.new ≡ sets words.old at ids.now }
 {
-    let mut i: usize = 0;
-    while i < Model::MEMBERS {
-        words[at + i] = ids[i] as u64;
-        i += 1;
+    for (i, id) in ids.iter().enumerate() {
+        words[at + i] = u64::from(*id);
     }
 }
 
 // The nineteen words of a constraint, from place `at` on.
-fn put_constraint(c: Constraint, at: usize, words: &mut [u64])
+fn put_constraint(c: &Constraint, at: usize, words: &mut [u64])
     requires { at + (2 + limits.members) ≤ length words.old }
-    ensures words_after { words.new ≡ sets words.old at (constraint_words c) }
-    ensures c_len { length (constraint_words c) ≡ 2 + limits.members }
+    ensures words_after { words.new ≡ sets words.old at (constraint_words c.now) }
+    ensures c_len { length (constraint_words c.now) ≡ 2 + limits.members }
 {
-    words[at] = c.code as u64;
-    words[at + 1] = c.count as u64;
-    let ids = c.groups;
-    put_members(ids, at + 2, words);
+    words[at] = u64::from(c.code);
+    words[at + 1] = u64::from(c.count);
+    put_members(&c.groups, at + 2, words);
 }
 
-// The words of all constraints, from place `at` on.
-fn lay_constraints(constraints: [Constraint; Model::CONSTRAINTS], at: usize, words: &mut [u64])
+// The words of constraints, from place `at` on.
+fn lay_constraints(constraints: &[Constraint; Model::CONSTRAINTS], at: usize, words: &mut [u64])
     requires { at + (2 + limits.members) * limits.constraints ≤ length words.old }
-    ensures words_after { words.new ≡ sets words.old at (each constraint_words constraints) }
-    ensures constraints_len { length (each constraint_words constraints) ≡ (2 + limits.members) * limits.constraints }
+    ensures words_after { words.new ≡ sets words.old at (flat_map constraint_words constraints.now) }
+    ensures constraints_len { length (flat_map constraint_words constraints.now) ≡ (2 + limits.members) * limits.constraints }
 {
-    let mut i: usize = 0;
-    while i < Model::CONSTRAINTS {
-        let c = constraints[i];
+    for (i, c) in constraints.iter().enumerate() {
         put_constraint(c, at + (2 + Model::MEMBERS) * i, words);
-        i += 1;
     }
-}
-
-// A model's n, s and c, at the front of a slice that has room for them.
-fn put_head(n: u32, s: u32, c: u32, words: &mut [u64])
-    requires { 3 ≤ length words.old }
-    ensures { words.new ≡ sets words.old 0 (n ∷ s ∷ c ∷ []) }
-{
-    words[0] = n as u64;
-    words[1] = s as u64;
-    words[2] = c as u64;
 }
 
 // The words of a model.
 pub const MODEL_WORDS: usize = 3 + 4 * Model::GROUPS + (2 + Model::MEMBERS) * Model::CONSTRAINTS;
 
 // A model's words at the front of a slice that has room for them; else false, and the slice is left.
-pub fn put_model(m: Model, words: &mut [u64]) -> bool
+#[tactic(auto, unfolding(crate::specs::Packing::model_laid, crate::specs::Packing::model_words))]
+pub fn put_model(m: &Model, words: &mut [u64]) -> bool
     ensures value { result ≡ leb model_size (length words.old) }
-    ensures words_after { words.new ≡ model_laid m words.old }
+    ensures words_after { words.new ≡ model_laid m.now words.old }
 {
     if words.len() < MODEL_WORDS {
         return false;
     }
-    let groups = m.groups;
-    let constraints = m.constraints;
-    model::whole(groups, constraints);
-    put_head(m.n, m.s, m.c, words);
-    lay_groups(groups, Model::GROUPS, 3, words);
-    lay_constraints(constraints, 3 + 4 * Model::GROUPS, words);
+    words[0] = u64::from(m.n);
+    words[1] = u64::from(m.s);
+    words[2] = u64::from(m.c);
+    lay_groups(&m.groups, Model::GROUPS, 3, words);
+    lay_constraints(&m.constraints, 3 + 4 * Model::GROUPS, words);
     true
 }
 
 // A word for each group, at the front of a slice that has room for them.
-fn put_words(words: [u64; Model::GROUPS], groups: &mut [u64])
+fn put_words(words: &[u64; Model::GROUPS], groups: &mut [u64])
     requires { limits.groups ≤ length groups.old }
-    ensures { groups.new ≡ words ++ drop limits.groups groups.old }
+    ensures { groups.new ≡ words.now ++ drop limits.groups groups.old }
 {
-    let mut i: usize = 0;
-    while i < Model::GROUPS {
-        groups[i] = words[i];
-        i += 1;
-    }
+    groups[..Model::GROUPS].copy_from_slice(words);
 }
 
 // Closing's refusal, and the groups. A slice without room for them is 24.
-pub fn close_number(a: Closed, groups: &mut [u64]) -> u32
-    ensures value { result ≡ (fitted_closing (length groups.old) a).refusal }
-    ensures groups_after { groups.new ≡ groups_after (fitted_closing (length groups.old) a) groups.old }
+#[tactic(auto, unfolding(crate::specs::Packing::fitted_closing))]
+pub fn close_number(a: &Closed, groups: &mut [u64]) -> u32
+    ensures value { result ≡ (fitted_closing (length groups.old) a.now).refusal }
+    ensures groups_after { groups.new ≡ groups_after (fitted_closing (length groups.old) a.now) groups.old }
 {
     if a.refusal != 0 {
         return a.refusal;
@@ -181,7 +160,6 @@ pub fn close_number(a: Closed, groups: &mut [u64]) -> u32
     if groups.len() < Model::GROUPS {
         return 24;
     }
-    let words = a.groups;
-    put_words(words, groups);
+    put_words(&a.groups, groups);
     a.refusal
 }

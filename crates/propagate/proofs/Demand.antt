@@ -4,14 +4,14 @@ use mathlib.Core.Path.{◌≡◌, sym, ap, subst}
 use lib.Dec.{T}
 use Rattle.model.specs.declared.Model.{Model}
 use Rattle.model.specs.declared.Propagated.{Propagated}
-use Rattle.model.specs.Lists.{every}
+use Rattle.std.specs.List.{list_all}
 use Rattle.model.specs.Model.{constraints_of, constraint_sized, members_sized, in_range}
 use Rattle.model.specs.Propagate.{refused_propagation, propagated}
 use Rattle.model.proofs.Lists.{every_take}
 use Rattle.propagation_laws.proofs.Propagation.{propagation}
 use Rattle.correctness.specs.Demand3.{Settling}
 
-members : (m : Model) → T (every constraint_sized m.constraints) → T (members_sized m)
+members : (m : Model) → T (list_all constraint_sized m.constraints) → T (members_sized m)
 unfolding constraints_of
 members m w = every_take constraint_sized m.c m.constraints w
 
@@ -23,7 +23,7 @@ pub out_of_range : (m : Model) (r : Propagated) → r ≡ refused_propagation 20
 unfolding refused_propagation
 out_of_range m r e p = (p.0, (p.1, λ n. absurd (n (ap (λ (x : Propagated). x.refusal) e))))
 
-pub in_demand : (m : Model) → T (in_range m) → T (every constraint_sized m.constraints) → (r : Propagated)
+pub in_demand : (m : Model) → T (in_range m) → T (list_all constraint_sized m.constraints) → (r : Propagated)
     → (r ≡ propagated m) × (r.passes ≤ 2 * m.s * m.n + 1) → Promise m r
 in_demand m t w r e =
     let p = propagation m t (members m w) in (

@@ -9,14 +9,15 @@ use mathlib.Core.Bool.{Bool, true, false, ◌||◌}
 use mathlib.Core.List.{List, [], ◌∷◌}
 use borrow.Author.Tests.{eqb-true, eq-eqb}
 use lib.Dec.{T, eqb, leb→le}
-use lib.ListN.{length, get_or, take, replicate, length-take, length-replicate}
-use lib.Seq.{take-suc, get_or-take, length-take-le}
+use lib.ListN.{length, get_or, take}
+use lib.Seq.{take-suc}
 use Rattle.model.specs.declared.Constraint.{Constraint}
-use Rattle.model.specs.Lists.{every, between}
+use Rattle.std.specs.List.{list_all}
+use Rattle.model.specs.Lists.{between}
 use Rattle.model.specs.Limits.{limits}
 use Rattle.model.specs.Clauses.{member_count, groups_of}
 use Rattle.model.specs.Model.{zero_constraint, constraint_in_range, constraint_sized}
-use Rattle.model.proofs.Lists.{any_append, every-getD, every_take, between_le, get_or-other, or-false}
+use Rattle.model.proofs.Lists.{any_append, every-getD, between_le, get_or-other, or-false}
 use Rattle.model.proofs.Codes.{member-bound}
 use Rattle.propagation_laws.proofs.Ranges.{constraint-code, groups-in}
 use Rattle.marks.specs.Marks.{marked, with_mark}
@@ -25,17 +26,10 @@ use Rattle.propagation_laws.proofs.Locality.{owns}
 use Rattle.propagate.specs.Skip.{line_at, Index, AddsLine}
 
 -- a group's number
-pub id_between : (ids : List ℕ) (count k : ℕ) → T (every (between 1 limits.groups) (take count ids)) → k < count → count ≤ length ids
-    → (1 ≤ get_or ids k 0) × (get_or ids k 0 ≤ 256)
-id_between ids count k t h l =
-    between_le 1 limits.groups (get_or ids k 0)
-    (subst (λ (g : ℕ). T (between 1 limits.groups g)) (get_or-take count ids k 0 h)
-    (every-getD (between 1 limits.groups) (take count ids) 0 k t (omega (arith, length-take count ids))))
+pub id_between : (ids : List ℕ) (k : ℕ) → T (list_all (between 1 limits.groups) ids) → k < length ids → (1 ≤ get_or ids k 0) × (get_or ids k 0 ≤ 256)
+id_between ids k t h = between_le 1 limits.groups (get_or ids k 0) (every-getD (between 1 limits.groups) ids 0 k t h)
 
 -- ---- a line
-
-pub line-start : (j : ℕ) (index : List ℕ) → AddsLine j [] index index
-line-start j index = record { size = refl; old = λ k e. e; row = λ i e. let n : ◌≡◌ {A = ℕ} 0 1 = cc in absurd (omega arith) }
 
 or-true-left : (a b : Bool) → a ≡ true → (a || b) ≡ true
 or-true-left a b e = rw e
@@ -75,55 +69,44 @@ pub record Rows (cs : List Constraint) (k : ℕ) (index : List ℕ) : Type 0 whe
   pub size : length index ≡ 1024
   pub row : (j : ℕ) → j < k → (i : ℕ) → owns (groups_of (line_at cs j)) i ≡ true → marked index (256 * i + j) ≡ true
 
-pub rows_start : (cs : List Constraint) → Rows cs 0 (replicate 1024 0)
-rows_start cs = record { size = length-replicate {A = ℕ} 1024 0; row = λ j h. absurd (omega arith) }
+module _ (cs : List Constraint) (t : T (list_all (constraint_in_range limits.groups) cs)) where
+  pub line-is : (j : ℕ) → j < length cs → (d : Constraint) → line_at cs j ≡ get_or cs j d
+  line-is j h d = get_or-other cs j zero_constraint d h
 
-module _ (constraints : List Constraint) (c : ℕ) (few : c ≤ limits.constraints) (fits : c ≤ length constraints)
-    (t : T (every (constraint_in_range limits.groups) (take c constraints))) where
-  pub line-is : (j : ℕ) → j < c → (d : Constraint) → line_at (take c constraints) j ≡ get_or constraints j d
-  line-is j h d = get_or-take c constraints j zero_constraint h ∙ get_or-other constraints j zero_constraint d (omega arith)
+  pub line-in : (j : ℕ) → j < length cs → (d : Constraint) → T (constraint_in_range limits.groups (get_or cs j d))
+  line-in j h d = every-getD (constraint_in_range limits.groups) cs d j t h
 
-  pub line-in : (j : ℕ) → j < c → (d : Constraint) → T (constraint_in_range limits.groups (get_or constraints j d))
-  line-in j h d =
-      subst (λ x. T (constraint_in_range limits.groups x)) (line-is j h d)
-      (every-getD (constraint_in_range limits.groups) (take c constraints) zero_constraint j t (omega (arith, length-take c constraints)))
-
-  pub rows_next : (k : ℕ) (index next : List ℕ) → Rows (take c constraints) k index → k < c → (d : Constraint) (n : ℕ)
-      → n ≡ member_count (get_or constraints k d).code (get_or constraints k d).count → AddsLine k (take n (get_or constraints k d).groups) index next → Rows (take c constraints) (k + 1) next
+  pub rows_next : (k : ℕ) (index next : List ℕ) → Rows cs k index → k < length cs → (d : Constraint) (n : ℕ)
+      → n ≡ member_count (get_or cs k d).code (get_or cs k d).count → AddsLine k (take n (get_or cs k d).groups) index next → Rows cs (k + 1) next
   unfolding groups_of
   rows_next k index next r h d n e a = record {
     size = a.size ∙ r.size;
     row = λ j l i o. ⊎_elim (λ (q : j ≡ k). last j q i o) (λ q. a.old (256 * i + j) (r.row j q i o)) (eq-or-lt_of_le (omega arith));
   }
     where
-      last : (j : ℕ) → j ≡ k → (i : ℕ) → owns (groups_of (line_at (take c constraints) j)) i ≡ true → marked next (256 * i + j) ≡ true
+      last : (j : ℕ) → j ≡ k → (i : ℕ) → owns (groups_of (line_at cs j)) i ≡ true → marked next (256 * i + j) ≡ true
       last j q i o =
-          let x : owns (take n (get_or constraints k d).groups) i ≡ true = rw e
-          (unfold groups_of in subst (λ (y : Constraint). owns (groups_of y) i ≡ true) (ap (line_at (take c constraints)) q ∙ line-is k h d) o) in
+          let x : owns (take n (get_or cs k d).groups) i ≡ true = rw e
+          (unfold groups_of in subst (λ (y : Constraint). owns (groups_of y) i ≡ true) (ap (line_at cs) q ∙ line-is k h d) o) in
           subst (λ (y : ℕ). marked next (256 * i + y) ≡ true) (sym q) (a.row i x)
 
-  pub rows_end : T (every constraint_sized constraints) → (k : ℕ) (index : List ℕ) → Rows (take c constraints) k index → c ≤ k → Index (take c constraints) index
-  rows_end wide k index r l = record {
-    few = omega (arith, long);
-    code = λ j h. constraint-code limits.groups (line_at (take c constraints) j) (every-getD (constraint_in_range limits.groups) (take c constraints) zero_constraint j t h);
-    wide = λ j h. leb→le limits.members (length (line_at (take c constraints) j).groups)
-        (every-getD constraint_sized (take c constraints) zero_constraint j (every_take constraint_sized c constraints wide) h);
-    row = λ j h. r.row j (omega (arith, long));
+  pub rows_end : length cs ≤ limits.constraints → T (list_all constraint_sized cs) → (k : ℕ) (index : List ℕ) → Rows cs k index → length cs ≤ k → Index cs index
+  rows_end few wide k index r l = record {
+    few = few;
+    code = λ j h. constraint-code limits.groups (line_at cs j) (every-getD (constraint_in_range limits.groups) cs zero_constraint j t h);
+    wide = λ j h. leb→le limits.members (length (line_at cs j).groups) (every-getD constraint_sized cs zero_constraint j wide h);
+    row = λ j h. r.row j (omega arith);
   }
-    where
-      long : length (take c constraints) ≡ c
-      long = length-take-le c constraints fits
+
+pub member_few : (l : Constraint) → T (constraint_in_range limits.groups l) → member_count l.code l.count ≤ limits.members
+member_few l r = member-bound l.code l.count (constraint-code limits.groups l r)
+
+pub members_few : (cs : List Constraint) (j : ℕ) (d : Constraint) → T (list_all (constraint_in_range limits.groups) cs) → j < length cs
+    → member_count (get_or cs j d).code (get_or cs j d).count ≤ limits.members
+members_few cs j d t h = member_few (get_or cs j d) (every-getD (constraint_in_range limits.groups) cs d j t h)
 
 -- the groups of a line in range
 module _ (l : Constraint) (r : T (constraint_in_range limits.groups l)) (n : ℕ) (e : n ≡ member_count l.code l.count) where
-  pub count-few : n ≤ limits.members
-  count-few = omega (arith, e, member-bound l.code l.count (constraint-code limits.groups l r))
-
-  pub count-in : T (every (between 1 limits.groups) (take n l.groups))
+  pub count-in : T (list_all (between 1 limits.groups) (take n l.groups))
   unfolding groups_of
   count-in = rw e (groups-in limits.groups l r)
-
-pub line-wide : (constraints : List Constraint) (c : ℕ) → c ≤ length constraints → T (every constraint_sized constraints) → (j : ℕ) → j < c → (d : Constraint)
-    → limits.members ≤ length (get_or constraints j d).groups
-line-wide constraints c fits wide j h d =
-    leb→le limits.members (length (get_or constraints j d).groups) (every-getD constraint_sized constraints d j wide (omega arith))

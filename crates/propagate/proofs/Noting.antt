@@ -8,22 +8,18 @@ use mathlib.Core.List.{List, ◌∷◌}
 use borrow.Author.Tests.{eqb-true, eqb-false, eq-eqb, ne_eqb}
 use lib.Dec.{T, eqb}
 use lib.ListN.{length, get_or, set, take, drop, length-set, drop_of_length-le}
-use lib.Seq.{get_or-set_same, get_or-set_other, set-get_or, ext_get_or}
+use lib.Seq.{get_or-set_same, get_or-set_other, ext_get_or}
 use Rattle.model.specs.declared.Group.{Group}
 use Rattle.model.specs.declared.Constraint.{Constraint}
 use Rattle.model.specs.Limits.{limits}
 use Rattle.model.specs.Clauses.{member_count, groups_of}
 use Rattle.model.specs.Model.{zero_group, code_in_range}
-use Rattle.model.specs.Propagate.{group_rule_at, constraint_rule, same_group}
-use Rattle.model.proofs.Lists.{place_set}
+use Rattle.model.specs.Propagate.{group_rule_at, constraint_rule}
 use Rattle.model.proofs.Loops.{drop-next}
-use Rattle.propagation_laws.proofs.GroupRule.{same-group, same-group-refl}
-use Rattle.table.specs.Table.{group, zipped, Whole, Changes}
-use Rattle.table.proofs.Arrays.{zipped-at, zipped-set}
 use Rattle.marks.specs.Marks.{marked, with_mark, without_mark, AddsRow}
-use Rattle.marks.proofs.Bits.{mark_set, mark-cleared, mark-length, unmark-length}
+use Rattle.marks.proofs.Bits.{mark_set, mark-cleared}
 use Rattle.propagation_laws.proofs.Locality.{owns, kept, on_group, on-constraint}
-use Rattle.propagate.specs.Skip.{line_at, Index, Quiet, Covers, Words, Notes, NotesAll, DifferIn, Ready, Step, Any, Line}
+use Rattle.propagate.specs.Skip.{line_at, Index, Quiet, Covers, Whole, Notes, NotesAll, DifferIn, Step, Any, Line}
 
 -- ---- what is covered
 
@@ -73,16 +69,7 @@ or_right_none false b e = e
 not-both : {A : Type 0} (b : Bool) → b ≡ true → b ≡ false → A
 not-both b p q = let n : ◌≡◌ {A = ℕ} 0 1 = cc in absurd (omega arith)
 
-module _ (index : List ℕ) (i : ℕ) (u x : List Group) (gs ls : List ℕ) (w : Words gs ls) (small : i < 256) (wx : Whole x) where
-  pub notes-same : get_or u i zero_group ≡ get_or x i zero_group → Notes false i index u x x gs ls gs ls
-  notes-same e = record {
-    seen = sym (ap (set x i) e ∙ set-get_or x i zero_group);
-    same = λ p. refl;
-    still = λ p. refl;
-    covers = covers-same index gs ls x;
-    words = w;
-  }
-
+module _ (index : List ℕ) (i : ℕ) (u x : List Group) (gs ls : List ℕ) (small : i < 256) (w : length gs ≡ 4) where
   pub notes-other : (get_or u i zero_group ≡ get_or x i zero_group → ⊥) → (y : List Group) → y ≡ set x i (get_or u i zero_group)
       → (gs₁ ls₁ : List ℕ) → gs₁ ≡ with_mark i gs → AddsRow index i ls ls₁ → Notes true i index u x y gs ls gs₁ ls₁
   notes-other f y e gs₁ ls₁ m r = record {
@@ -91,7 +78,7 @@ module _ (index : List ℕ) (i : ℕ) (u x : List Group) (gs ls : List ℕ) (w :
     still = λ p. absurd (f p);
     covers = record {
       groups = λ k q.
-          let b = sym (mark_set gs i (omega (arith, w.0)) k) ∙ sym (ap (λ (z : List ℕ). marked z k) m) ∙ q in
+          let b = sym (mark_set gs i (omega (arith, w)) k) ∙ sym (ap (λ (z : List ℕ). marked z k) m) ∙ q in
           (or-left-none (marked gs k) (eqb i k) b, other k (λ z. not-both (eqb i k) (eq-eqb i k (sym z)) (or_right_none (marked gs k) (eqb i k) b)));
       lines = λ j h q.
           let b = sym (r.1 j h) ∙ q in (
@@ -100,40 +87,18 @@ module _ (index : List ℕ) (i : ℕ) (u x : List Group) (gs ls : List ℕ) (w :
                 (or_right_none (marked ls j) (marked index (256 * i + j)) b)),
           );
     };
-    words = (ap length m ∙ mark-length gs i ∙ w.0, r.0 ∙ w.1);
   }
     where
       other : (k : ℕ) → (k ≡ i → ⊥) → get_or y k zero_group ≡ get_or x k zero_group
       other k n = ap (λ (z : List Group). get_or z k zero_group) e ∙ get_or-set_other x i k (get_or u i zero_group) zero_group n
 
--- as the code has it: the arrays' groups at place i
-module _ (f p l h f₁ p₁ l₁ h₁ : List ℕ) (i : ℕ) (small : i < 256) (wu : Whole (zipped f p l h)) (wx : Whole (zipped f₁ p₁ l₁ h₁)) where
-  abbrev now : Group
-  now = group (get_or f i 0) (get_or p i 0) (get_or l i 0) (get_or h i 0)
+-- as the code compares two groups
+alike : (a : Group) → (eqb a.fixed a.fixed && (eqb a.possible a.possible && (eqb a.low a.low && eqb a.high a.high))) ≡ true
+alike a = rw (eq-eqb a.fixed a.fixed refl, eq-eqb a.possible a.possible refl, eq-eqb a.low a.low refl, eq-eqb a.high a.high refl)
 
-  abbrev was : Group
-  was = group (get_or f₁ i 0) (get_or p₁ i 0) (get_or l₁ i 0) (get_or h₁ i 0)
-
-  at-now : get_or (zipped f p l h) i zero_group ≡ group (get_or f i 0) (get_or p i 0) (get_or l i 0) (get_or h i 0)
-  at-now = zipped-at f p l h i (omega arith)
-
-  at-was : get_or (zipped f₁ p₁ l₁ h₁) i zero_group ≡ group (get_or f₁ i 0) (get_or p₁ i 0) (get_or l₁ i 0) (get_or h₁ i 0)
-  at-was = zipped-at f₁ p₁ l₁ h₁ i (omega arith)
-
-  pub is_seen : (b : Bool) → b ≡ same_group now was → b ≡ true → get_or (zipped f p l h) i zero_group ≡ get_or (zipped f₁ p₁ l₁ h₁) i zero_group
-  is_seen b e t = at-now ∙ same-group now was (subst T (sym t ∙ e) tt) ∙ sym at-was
-
-  pub not_seen : (b : Bool) → b ≡ same_group now was → b ≡ false → get_or (zipped f p l h) i zero_group ≡ get_or (zipped f₁ p₁ l₁ h₁) i zero_group → ⊥
-  not_seen b e t q =
-      let z : now ≡ was = sym at-now ∙ q ∙ at-was in
-      subst T (ap (same_group now) z ∙ sym e ∙ t) (same-group-refl now)
-
-  pub seen_stored : zipped (set f₁ i (get_or f i 0)) (set p₁ i (get_or p i 0)) (set l₁ i (get_or l i 0)) (set h₁ i (get_or h i 0))
-      ≡ set (zipped f₁ p₁ l₁ h₁) i (get_or (zipped f p l h) i zero_group)
-  seen_stored =
-      zipped-set f₁ p₁ l₁ h₁ i (get_or f i 0) (get_or p i 0) (get_or l i 0) (get_or h i 0)
-      ∙ place_set i (λ g. now) (zipped f₁ p₁ l₁ h₁) zero_group
-      ∙ ap (set (zipped f₁ p₁ l₁ h₁) i) (sym at-now)
+pub not_seen : (a b : Group) → false ≡ (eqb a.fixed b.fixed && (eqb a.possible b.possible && (eqb a.low b.low && eqb a.high b.high))) → a ≡ b → ⊥
+not_seen a b h e =
+    let k : false ≡ true = h ∙ ap (λ (x : Group). eqb a.fixed x.fixed && (eqb a.possible x.possible && (eqb a.low x.low && eqb a.high x.high))) (sym e) ∙ alike a in cc
 
 -- ---- the groups of a line are noted
 
@@ -143,16 +108,12 @@ pub record MembersLeft (ids : List ℕ) (k : ℕ) (changed : Bool) (index : List
   pub same : changed ≡ false → y ≡ x
   pub still : u ≡ x → changed ≡ false
   pub covers : Covers index gs ls x gs₁ ls₁ y
-  pub words : Words gs₁ ls₁
   pub whole : Whole y
 
 pub false-or : (a b : Bool) → a ≡ false → b ≡ false → (a || b) ≡ false
 false-or a b p q = rw (p, q)
 
 module _ (ids : List ℕ) (index : List ℕ) (u x : List Group) (gs ls : List ℕ) where
-  pub members-start : DifferIn ids x u → Words gs ls → Whole x → MembersLeft ids 0 false index u x x gs ls gs ls
-  members-start d w wx = record { left = d; same = λ e. refl; still = λ e. refl; covers = covers-same index gs ls x; words = w; whole = wx }
-
   pub members-next : (k : ℕ) (changed : Bool) (y : List Group) (gs₁ ls₁ : List ℕ) → MembersLeft ids k changed index u x y gs ls gs₁ ls₁ → k < length ids
       → (i : ℕ) → i ≡ get_or ids k 0 - 1 → i < 256 → (r : Bool) (z : List Group) (gs₂ ls₂ : List ℕ) → Notes r i index u y z gs₁ ls₁ gs₂ ls₂
       → MembersLeft ids (k + 1) (changed || r) index u x z gs ls gs₂ ls₂
@@ -163,7 +124,6 @@ module _ (ids : List ℕ) (index : List ℕ) (u x : List Group) (gs ls : List �
         let f = inv.still q in
         false-or changed r f (a.still (ap (λ (t : List Group). get_or t i zero_group) (q ∙ sym (inv.same f))));
     covers = covers-then index gs ls gs₁ ls₁ gs₂ ls₂ x y z inv.covers a.covers;
-    words = a.words;
     whole = ap length a.seen ∙ length-set y i (get_or u i zero_group) ∙ inv.whole;
   }
     where
@@ -188,7 +148,6 @@ module _ (ids : List ℕ) (index : List ℕ) (u x : List Group) (gs ls : List �
     same = inv.same;
     still = inv.still;
     covers = inv.covers;
-    words = inv.words;
   }
 
 -- ---- a step
@@ -201,7 +160,6 @@ notes_all r i index u x y gs ls gs₁ ls₁ a small wx wu other = record {
   same = a.same;
   still = λ e. a.still (ap (λ (t : List Group). get_or t i zero_group) e);
   covers = a.covers;
-  words = a.words;
 }
   where
     go : (k : ℕ) (b : Bool) → eqb i k ≡ b → get_or (set x i (get_or u i zero_group)) k zero_group ≡ get_or u k zero_group
@@ -214,7 +172,7 @@ pub noted_step : (Of : ℕ → List Constraint → Type 0) (rule : List Group �
     → NotesAll r index u x y gs ls gs₁ ls₁ → x ≡ t → Whole t → Whole u → u ≡ rule t → Step Of rule index r t gs ls u y gs₁ ls₁
 noted_step Of rule r index t u x y gs ls gs₁ ls₁ a e wt wu is = record {
   next = is;
-  ready = record { whole = wu; seen = a.seen; words = a.words };
+  seen = a.seen;
   same = λ p. sym a.seen ∙ a.same p ∙ e;
   still = λ p. a.still (is ∙ p ∙ sym e);
   quiet = λ n s cs o i q.
@@ -232,11 +190,11 @@ module _ (Of : ℕ → List Constraint → Type 0) (rule : List Group → List G
   rests = ap rule (a.same no) ∙ sym a.next
 
   -- the rule's own mark may go where nothing changed
-  pub unmark-group : (i : ℕ) → i < 256 → ((v : List Group) → rule v ≡ group_rule_at (i + 1) v) → (gs₂ : List ℕ) → gs₂ ≡ without_mark i gs₁
+  pub unmark-group : (i : ℕ) → i < 256 → length gs₁ ≡ 4 → ((v : List Group) → rule v ≡ group_rule_at (i + 1) v) → (gs₂ : List ℕ) → gs₂ ≡ without_mark i gs₁
       → Step Of rule index r t gs ls u y gs₂ ls₁
-  unmark-group i small is gs₂ e = record {
+  unmark-group i small w is gs₂ e = record {
     next = a.next;
-    ready = record { whole = a.ready.whole; seen = a.ready.seen; words = (ap length e ∙ unmark-length gs₁ i ∙ a.ready.words.0, a.ready.words.1) };
+    seen = a.seen;
     same = a.same;
     still = a.still;
     quiet = λ n s cs o x q.
@@ -247,13 +205,13 @@ module _ (Of : ℕ → List Constraint → Type 0) (rule : List Group → List G
       go : (n s : ℕ) (cs : List Constraint) → Quiet n s cs gs₁ ls₁ u → (k : ℕ) → k < s → marked gs₂ k ≡ false → (b : Bool) → eqb i k ≡ b → group_rule_at (k + 1) u ≡ u
       go n s cs q k h m true f = subst (λ (z : ℕ). group_rule_at (z + 1) u ≡ u) (eqb-true i k f) (sym (is u) ∙ rests)
       go n s cs q k h m false f =
-          q.groups k h (not-and (marked gs₁ k) (eqb i k) (sym (mark-cleared gs₁ i (omega (arith, a.ready.words.0)) k) ∙ sym (ap (λ (z : List ℕ). marked z k) e) ∙ m) f)
+          q.groups k h (not-and (marked gs₁ k) (eqb i k) (sym (mark-cleared gs₁ i (omega (arith, w)) k) ∙ sym (ap (λ (z : List ℕ). marked z k) e) ∙ m) f)
 
-  pub unmark-line : (j : ℕ) → j < 256 → ((n : ℕ) (cs : List Constraint) → Of n cs → (v : List Group) → rule v ≡ constraint_rule n (line_at cs j) v)
+  pub unmark-line : (j : ℕ) → j < 256 → length ls₁ ≡ 4 → ((n : ℕ) (cs : List Constraint) → Of n cs → (v : List Group) → rule v ≡ constraint_rule n (line_at cs j) v)
       → (ls₂ : List ℕ) → ls₂ ≡ without_mark j ls₁ → Step Of rule index r t gs ls u y gs₁ ls₂
-  unmark-line j small is ls₂ e = record {
+  unmark-line j small w is ls₂ e = record {
     next = a.next;
-    ready = record { whole = a.ready.whole; seen = a.ready.seen; words = (a.ready.words.0, ap length e ∙ unmark-length ls₁ j ∙ a.ready.words.1) };
+    seen = a.seen;
     same = a.same;
     still = a.still;
     quiet = λ n s cs o x q.
@@ -265,54 +223,48 @@ module _ (Of : ℕ → List Constraint → Type 0) (rule : List Group → List G
           → constraint_rule n (line_at cs k) u ≡ u
       go n s cs o q k h m true f = subst (λ (z : ℕ). constraint_rule n (line_at cs z) u ≡ u) (eqb-true j k f) (sym (is n cs o u) ∙ rests)
       go n s cs o q k h m false f =
-          q.lines k h (not-and (marked ls₁ k) (eqb j k) (sym (mark-cleared ls₁ j (omega (arith, a.ready.words.1)) k) ∙ sym (ap (λ (z : List ℕ). marked z k) e) ∙ m) f)
+          q.lines k h (not-and (marked ls₁ k) (eqb j k) (sym (mark-cleared ls₁ j (omega (arith, w)) k) ∙ sym (ap (λ (z : List ℕ). marked z k) e) ∙ m) f)
 
 -- ---- a group's step, and a line's
 
-module _ (i : ℕ) (small : i < 256) (t x u : List Group) (gs ls : List ℕ) (ready : Ready t x gs ls) (is : u ≡ group_rule_at (i + 1) t) where
-  pub group-whole : Whole u
-  group-whole = ap length is ∙ (on_group i).size t ∙ ready.whole
+module _ (i : ℕ) (small : i < 256) (t x u : List Group) (gs ls : List ℕ) (wt : Whole t) (seen : x ≡ t) (is : u ≡ group_rule_at (i + 1) t) where
+  group-whole : Whole u
+  group-whole = ap length is ∙ (on_group i).size t ∙ wt
 
-  pub last-whole : Whole x
-  last-whole = ap length ready.seen ∙ ready.whole
+  last-whole : Whole x
+  last-whole = ap length seen ∙ wt
 
   pub group-noted : (r : Bool) (index : List ℕ) (y : List Group) (gs₁ ls₁ : List ℕ) → Notes r i index u x y gs ls gs₁ ls₁
       → Step Any (group_rule_at (i + 1)) index r t gs ls u y gs₁ ls₁
   group-noted r index y gs₁ ls₁ a =
       noted_step Any (group_rule_at (i + 1)) r index t u x y gs ls gs₁ ls₁
       (notes_all r i index u x y gs ls gs₁ ls₁ a small last-whole group-whole
-      (λ k e. ap (λ (z : List Group). get_or z k zero_group) is ∙ (on_group i).frame t k e ∙ sym (ap (λ (z : List Group). get_or z k zero_group) ready.seen)))
-      ready.seen ready.whole group-whole is
+      (λ k e. ap (λ (z : List Group). get_or z k zero_group) is ∙ (on_group i).frame t k e ∙ sym (ap (λ (z : List Group). get_or z k zero_group) seen)))
+      seen wt group-whole is
 
-  pub group-quiet : (r : Bool) (index : List ℕ) (y : List Group) (gs₁ ls₁ gs₂ : List ℕ) → Notes r i index u x y gs ls gs₁ ls₁ → r ≡ false → gs₂ ≡ without_mark i gs₁
+  pub group-quiet : (r : Bool) (index : List ℕ) (y : List Group) (gs₁ ls₁ gs₂ : List ℕ) → Notes r i index u x y gs ls gs₁ ls₁ → r ≡ false → length gs₁ ≡ 4 → gs₂ ≡ without_mark i gs₁
       → Step Any (group_rule_at (i + 1)) index r t gs ls u y gs₂ ls₁
-  group-quiet r index y gs₁ ls₁ gs₂ a off e =
-      unmark-group Any (group_rule_at (i + 1)) index r t gs ls u y gs₁ ls₁ (group-noted r index y gs₁ ls₁ a) off i small (λ v. refl) gs₂ e
+  group-quiet r index y gs₁ ls₁ gs₂ a off w e =
+      unmark-group Any (group_rule_at (i + 1)) index r t gs ls u y gs₁ ls₁ (group-noted r index y gs₁ ls₁ a) off i small w (λ v. refl) gs₂ e
 
 module _ (n j : ℕ) (small : j < 256) (l : Constraint) (ok : T (code_in_range l.code l.count)) (wide : limits.members ≤ length l.groups)
-    (t x u : List Group) (gs ls : List ℕ) (ready : Ready t x gs ls) (made : Changes (constraint_rule n l) t u) where
-  pub line-whole : Whole u
-  line-whole = (made ready.whole).0
-
-  is-rule : u ≡ constraint_rule n l t
-  is-rule = (made ready.whole).1
+    (t x u : List Group) (gs ls : List ℕ) (wt : Whole t) (seen : x ≡ t) (is-rule : u ≡ constraint_rule n l t) where
+  line-whole : Whole u
+  line-whole = ap length is-rule ∙ (on-constraint n l ok wide).size t ∙ wt
 
   pub line-differ : (k : ℕ) → k ≡ member_count l.code l.count → DifferIn (take k l.groups) x u
   line-differ k e i o =
       let own : owns (groups_of l) i ≡ false = unfold groups_of in rw e at o in
-      ap (λ (z : List Group). get_or z i zero_group) ready.seen
+      ap (λ (z : List Group). get_or z i zero_group) seen
       ∙ sym (ap (λ (z : List Group). get_or z i zero_group) is-rule ∙ (on-constraint n l ok wide).frame t i own)
-
-  pub line-last : Whole x
-  line-last = ap length ready.seen ∙ ready.whole
 
   pub line-noted : (r : Bool) (index : List ℕ) (y : List Group) (gs₁ ls₁ : List ℕ) → NotesAll r index u x y gs ls gs₁ ls₁
       → Step (Line n j l) (constraint_rule n l) index r t gs ls u y gs₁ ls₁
   line-noted r index y gs₁ ls₁ a =
-      noted_step (Line n j l) (constraint_rule n l) r index t u x y gs ls gs₁ ls₁ a ready.seen ready.whole line-whole is-rule
+      noted_step (Line n j l) (constraint_rule n l) r index t u x y gs ls gs₁ ls₁ a seen wt line-whole is-rule
 
-  pub line_quiet : (r : Bool) (index : List ℕ) (y : List Group) (gs₁ ls₁ ls₂ : List ℕ) → NotesAll r index u x y gs ls gs₁ ls₁ → r ≡ false → ls₂ ≡ without_mark j ls₁
+  pub line_quiet : (r : Bool) (index : List ℕ) (y : List Group) (gs₁ ls₁ ls₂ : List ℕ) → NotesAll r index u x y gs ls gs₁ ls₁ → r ≡ false → length ls₁ ≡ 4 → ls₂ ≡ without_mark j ls₁
       → Step (Line n j l) (constraint_rule n l) index r t gs ls u y gs₁ ls₂
-  line_quiet r index y gs₁ ls₁ ls₂ a off e =
-      unmark-line (Line n j l) (constraint_rule n l) index r t gs ls u y gs₁ ls₁ (line-noted r index y gs₁ ls₁ a) off j small
+  line_quiet r index y gs₁ ls₁ ls₂ a off w e =
+      unmark-line (Line n j l) (constraint_rule n l) index r t gs ls u y gs₁ ls₁ (line-noted r index y gs₁ ls₁ a) off j small w
       (λ m cs o v. ap₂ (λ (p : ℕ) (q : Constraint). constraint_rule p q v) (sym o.0) (sym o.1.1)) ls₂ e

@@ -1,22 +1,23 @@
--- Laws of a pass over the whole arrays and over the groups of a model, and of the passes made. Assumes nothing.
+-- Laws of a pass over the whole table and over the groups of a model, and of the passes made. Assumes nothing.
 use mathlib.Core.Path.{◌≡◌, refl, sym, ap, ap₂, ◌∙◌, subst}
 use Prim.Native.Nat.{ℕ, zero, suc, ◌+◌, ◌-◌, ◌*◌, ◌≤◌, ◌<◌, min}
 use native.Mathlib.Nat.{le_trans, mul-le-mul_right}
 use native.Mathlib.Omega.{arith}
-use mathlib.Core.Bool.{Bool, true, false, cond, not, and-true, ◌&&◌}
+use mathlib.Core.Bool.{Bool, true, false, cond, not, ◌&&◌}
 use mathlib.Core.Logic.{⊎_elim}
 use mathlib.Core.List.{List, [], ◌∷◌, ◌++◌, map}
 use borrow.Author.Tests.{eqb-true}
 use lib.Dec.{T, eqb}
-use lib.ListN.{length, get_or, take, drop, length-take, take-append-drop, drop_of_length-le, get_or-append}
-use lib.Seq.{take_at, get_or-take, length-take-le}
+use lib.ListN.{length, get_or, take, drop, take-append-drop, get_or-append}
+use lib.Seq.{take_at, length-take-le}
 use Rattle.model.specs.declared.Literal.{Literal}
 use Rattle.model.specs.declared.Literal.TheVariants.{Pos, Neg}
 use Rattle.model.specs.declared.Group.{Group}
 use Rattle.model.specs.declared.Constraint.{Constraint}
 use Rattle.model.specs.declared.Model.{Model}
 use Rattle.model.specs.declared.Propagated.{Propagated}
-use Rattle.model.specs.Lists.{every, total, range, on_place, between, distinct}
+use Rattle.std.specs.List.{list_all}
+use Rattle.model.specs.Lists.{total, range, on_place, between, distinct}
 use Rattle.model.specs.Limits.{limits}
 use Rattle.model.specs.Words.{full}
 use Rattle.model.specs.Clauses.{member_count, is_difference, rule_clauses, of_group, groups_of, clauses_of}
@@ -30,72 +31,23 @@ use Rattle.model.proofs.Codes.{entrant-or-seven, members-below}
 use Rattle.model.proofs.LimitRules.{all-limits}
 use Rattle.propagation_laws.proofs.Meaning.{rule_clauses_lem}
 use Rattle.propagation_laws.proofs.Ranges.{constraint-code, groups-in, member_below, InRange, in_range_lem}
-use Rattle.table.specs.Table.{zipped, Whole, Changes}
-use Rattle.model.proofs.Loops.{drop-next}
 use Rattle.model.proofs.Words.{entrants-full}
-use Rattle.table.proofs.Rules.{run-append, RulesLeft, rule-done}
-use Rattle.rules.specs.Among.{MayDiffer, scope_among, rule_among}
-use Rattle.propagate.specs.Skip.{After}
+use Rattle.table.proofs.Rules.{run-append}
+use Rattle.rules.specs.Among.{scope_among, rule_among}
+use Rattle.propagate.specs.Skip.{Whole, After}
 
 -- ---- the rules of a pass, on all places
-
-groups-length : (a k : ℕ) (t : List Group) → length (run (map group_rule_at (range a k)) t) ≡ length t
-unfolding group_rule_at
-groups-length a zero t = refl
-groups-length a (suc k) t = groups-length (suc a) k (group_rule_at a t) ∙ place-length (a - 1) group_rule t
-
-pub groups-whole : (s : ℕ) (t u : List Group) → Whole t → u ≡ run (map group_rule_at (range 1 s)) t → Whole u
-groups-whole s t u w e = ap length e ∙ groups-length 1 s t ∙ w
 
 -- for the word of entrants 1..n, the rule is that of n
 pub among_all : (n all : ℕ) (c : Constraint) (t : List Group) → n ≤ limits.word → all ≡ full (min n limits.word) → rule_among all c t ≡ constraint_rule n c t
 unfolding rule_among scope_among constraint_rule scope
 among_all n all c t h e = ap (λ (x : ℕ). run (map (clause_rule (cond (is_difference c) (lone (unlike_in t c)) x)) (clauses_of c) ++ limit_rules c) t) (e ∙ entrants-full n h)
 
-pub changes_among : (n all : ℕ) (c : Constraint) (t u : List Group) → n ≤ limits.word → all ≡ full (min n limits.word) → Whole u × (u ≡ rule_among all c t)
-    → Changes (constraint_rule n c) t u
-changes_among n all c t u h e a w = (a.0, a.1 ∙ among_all n all c t h e)
-
--- t, after the groups' rules u, and after the constraints' v
-pub pass-made : (n s : ℕ) (cs : List Constraint) (t u v : List Group) → Whole t → u ≡ run (map group_rule_at (range 1 s)) t
-    → Changes (run (map (constraint_rule n) cs)) u v → Whole v × (v ≡ run (rules n s cs) t)
+-- after the groups' rules u, and after the constraints' v
+pub pass-made : (n s : ℕ) (cs : List Constraint) (t u v : List Group) → u ≡ run (map group_rule_at (range 1 s)) t → v ≡ run (map (constraint_rule n) cs) u → v ≡ run (rules n s cs) t
 unfolding rules
-pass-made n s cs t u v w e a =
-    let b = a (groups-whole s t u w e) in
-    (b.0, b.1 ∙ ap (run (map (constraint_rule n) cs)) e ∙ sym (run-append (map group_rule_at (range 1 s)) (map (constraint_rule n) cs) t))
-
--- constraints j + 1 to c: those from j on make of u what all of them make of t
-module _ (n all : ℕ) (few : n ≤ limits.word) (is : all ≡ full (min n limits.word)) (cs : List Constraint) (c : ℕ) (fits : c ≤ length cs) (t : List Group) where
-  pub constraint-done : (j : ℕ) (u : List Group) → RulesLeft (run (map (constraint_rule n) (take c cs))) (constraint_rule n) (take c cs) t j u → j < c → (d : Constraint) (v : List Group)
-      → Whole v × (v ≡ rule_among all (get_or cs j d) u) → RulesLeft (run (map (constraint_rule n) (take c cs))) (constraint_rule n) (take c cs) t (j + 1) v
-  constraint-done j u inv h d v a =
-      rule-done (run (map (constraint_rule n) (take c cs))) (constraint_rule n) (take c cs) t j u inv (omega (arith, length-take c cs)) d v
-      (subst (λ x. Changes (constraint_rule n x) u v) (sym (get_or-take c cs j d h)) (changes_among n all (get_or cs j d) u v few is a))
-
--- q with what all constraints say is r with what those from j on say
-abbrev pub DifferFrom : List ℕ → List ℕ → List Constraint → ℕ → Bool → ℕ → Bool → Type 0
-DifferFrom f p cs c q j r = (l h : List ℕ) → length l ≡ limits.groups → length h ≡ limits.groups
-    → (q && every (may_differ (zipped f p l h)) (take c cs)) ≡ (r && every (may_differ (zipped f p l h)) (drop j (take c cs)))
-
-and_assoc : (a b c : Bool) → (a && (b && c)) ≡ (a && b && c)
-and_assoc true b c = refl
-and_assoc false b c = refl
-
-module _ (f p : List ℕ) (cs : List Constraint) (c : ℕ) (few : c ≤ length cs) (q : Bool) (j : ℕ) (r : Bool) (inv : DifferFrom f p cs c q j r) where
-  pub differ-next : j < c → (d : Constraint) (x : Bool) → MayDiffer x f p (get_or cs j d) → DifferFrom f p cs c q (j + 1) (r && x)
-  differ-next some d x m l h a b =
-      let t = zipped f p l h in
-      let rest = every (may_differ t) (drop (j + 1) (take c cs)) in
-      inv l h a b
-      ∙ ap (λ xs. r && every (may_differ t) xs) (drop-next d (take c cs) j (omega (arith, length-take c cs)))
-      ∙ ap (λ y. r && (may_differ t y && rest)) (get_or-take c cs j d some)
-      ∙ ap (λ (y : Bool). r && (y && rest)) (sym (m l h a b))
-      ∙ and_assoc r x rest
-
-  pub differ-end : c ≤ j → (l h : List ℕ) → length l ≡ limits.groups → length h ≡ limits.groups → r ≡ (q && every (may_differ (zipped f p l h)) (take c cs))
-  differ-end end l h a b =
-      let past : length (take c cs) ≤ j = omega (arith, length-take c cs) in
-      sym (inv l h a b ∙ ap (λ xs. r && every (may_differ (zipped f p l h)) xs) (drop_of_length-le (take c cs) past) ∙ and-true r)
+pass-made n s cs t u v e a =
+    a ∙ ap (run (map (constraint_rule n) cs)) e ∙ sym (run-append (map group_rule_at (range 1 s)) (map (constraint_rule n) cs) t)
 
 -- ---- a rule of the first s places leaves what follows them
 
@@ -273,7 +225,7 @@ module _ (s : ℕ) (some : 1 ≤ s) (c : Constraint) (r : T (constraint_in_range
       (scope-inside n)
 
 -- its groups are groups of the whole table, too
-pub all_stand : (s : ℕ) → s ≤ limits.groups → (cs : List Constraint) → T (every (constraint_in_range s) cs) → T (every (constraint_in_range limits.groups) cs)
+pub all_stand : (s : ℕ) → s ≤ limits.groups → (cs : List Constraint) → T (list_all (constraint_in_range s) cs) → T (list_all (constraint_in_range limits.groups) cs)
 all_stand s few cs r =
     all-every (constraint_in_range limits.groups) cs
     (all-imp (λ c. T (constraint_in_range s c)) (λ c. T (constraint_in_range limits.groups c)) wider cs (every-all (constraint_in_range s) cs r))
@@ -281,8 +233,8 @@ all_stand s few cs r =
     wider : (c : Constraint) → T (constraint_in_range s c) → T (constraint_in_range limits.groups c)
     wider c u = unfold constraint_in_range in (
         let k = code_in_range c.code c.count in
-        let a = every (between 1 s) (groups_of c) in
-        let b = every (between 1 limits.groups) (groups_of c) in
+        let a = list_all (between 1 s) (groups_of c) in
+        let b = list_all (between 1 limits.groups) (groups_of c) in
         let d = distinct (groups_of c) in
         let in-groups : T b = all-every (between 1 limits.groups) (groups_of c)
         (all-imp (λ g. T (between 1 s g)) (λ g. T (between 1 limits.groups g))
@@ -291,21 +243,21 @@ all_stand s few cs r =
         and_both (k && b) d (and_both k b (constraint-code s c u) in-groups) (and_right (k && a) d u))
 
 -- whether each of them may differ
-differ-inside : (s : ℕ) → 1 ≤ s → (cs : List Constraint) → T (every (constraint_in_range s) cs) → (t u : List Group) → length t ≡ s
-    → every (may_differ (t ++ u)) cs ≡ every (may_differ t) cs
+differ-inside : (s : ℕ) → 1 ≤ s → (cs : List Constraint) → T (list_all (constraint_in_range s) cs) → (t u : List Group) → length t ≡ s
+    → list_all (may_differ (t ++ u)) cs ≡ list_all (may_differ t) cs
 differ-inside s some [] r t u e = refl
 differ-inside s some (c ∷ cs) r t u e =
     let a = constraint_in_range s c in
-    let b = every (constraint_in_range s) cs in
+    let b = list_all (constraint_in_range s) cs in
     ap₂ ◌&&◌ (differs-inside s some c (and_left a b r) t u e) (differ-inside s some cs (and_right a b r) t u e)
 
-module _ (s : ℕ) (some : 1 ≤ s) (few : s ≤ limits.groups) (cs : List Constraint) (r : T (every (constraint_in_range s) cs)) (t : List Group) (w : Whole t)
+module _ (s : ℕ) (some : 1 ≤ s) (few : s ≤ limits.groups) (cs : List Constraint) (r : T (list_all (constraint_in_range s) cs)) (t : List Group) (w : Whole t)
     (q : Bool) (e : q ≡ consistent (take s t)) where
-  pub tenable-is : (a : Bool) → a ≡ (q && every (may_differ t) cs) → a ≡ tenable cs (take s t)
+  pub tenable-is : (a : Bool) → a ≡ (q && list_all (may_differ t) cs) → a ≡ tenable cs (take s t)
   unfolding tenable
   tenable-is a d =
       d
-      ∙ ap (λ u. q && every (may_differ u) cs) (sym (take-append-drop s t))
+      ∙ ap (λ u. q && list_all (may_differ u) cs) (sym (take-append-drop s t))
       ∙ ap₂ (λ (x y : Bool). x && y) e (differ-inside s some cs r (take s t) (drop s t) (length-take-le s t (omega arith)))
 
 -- ---- a pass of the model is that of the arrays, at the first s places
@@ -320,7 +272,7 @@ module _ (m : Model) (t : T (in_range m)) where
   pub s-some : 1 ≤ m.s
   s-some = R.some-group
 
-  pub constraints-in : T (every (constraint_in_range m.s) (take m.c m.constraints))
+  pub constraints-in : T (list_all (constraint_in_range m.s) (take m.c m.constraints))
   unfolding constraints_of
   constraints-in = R.constraints
 
@@ -335,11 +287,11 @@ module _ (m : Model) (t : T (in_range m)) where
   groups-local a zero h l = tt
   groups-local a (suc k) h l = (local-place m.s (a - 1) group_rule (omega arith), groups-local (suc a) k (omega arith) (omega arith))
 
-  constraints-local : (cs : List Constraint) → T (every (constraint_in_range m.s) cs) → All (Local m.s) (map (constraint_rule m.n) cs)
+  constraints-local : (cs : List Constraint) → T (list_all (constraint_in_range m.s) cs) → All (Local m.s) (map (constraint_rule m.n) cs)
   constraints-local [] u = tt
   constraints-local (c ∷ cs) u =
       let a = constraint_in_range m.s c in
-      let b = every (constraint_in_range m.s) cs in
+      let b = list_all (constraint_in_range m.s) cs in
       (in-range-local m.s R.some-group c (and_left a b u) m.n, constraints-local cs (and_right a b u))
 
   pub pass-local : Local m.s (pass m)
@@ -357,8 +309,11 @@ module _ (m : Model) (t : T (in_range m)) where
       ap (take m.s) (e ∙ ap (pass m) (sym (take-append-drop m.s a)) ∙ l.0) ∙ take_at (pass m x) y m.s l.1
 
   -- what the code asks of the constraints
-  pub constraints-stand : T (every (constraint_in_range limits.groups) (take m.c m.constraints))
+  pub constraints-stand : T (list_all (constraint_in_range limits.groups) (take m.c m.constraints))
   constraints-stand = all_stand m.s s-few (take m.c m.constraints) constraints-in
+
+-- what the code asks of a model in range
+pub ruleset in_ranges = (s-some, s-few, n-few, c-few, constraints-in, constraints-stand)
 
 -- ---- the answer
 
@@ -398,7 +353,7 @@ passes-few m = go (in_range m) (outcome m) (made-few (tenable (constraints_of m)
     go true o h = by-outcome o h
     go false o h = omega arith
 
--- ---- one pass, as the code makes it: a are the groups of the model in the arrays, b the groups after it
+-- ---- one pass, as the code makes it: b are the groups after it
 
 module _ (m : Model) (r : Bool) (e : r ≡ in_range m) where
   pub range-false : r ≡ false → in_range m ≡ false
@@ -406,9 +361,6 @@ module _ (m : Model) (r : Bool) (e : r ≡ in_range m) where
 
   pub range-true : r ≡ true → T (in_range m)
   range-true f = true-T (in_range m) (sym e ∙ f)
-
-pub whole-read : (a gs : List Group) → Whole gs → a ≡ gs → Whole a
-whole-read a gs w e = ap length e ∙ w
 
 -- what a pass says of 22
 module _ (m : Model) (t : T (in_range m)) (b : List Group) (same ok : Bool) (a : After m b same ok) where

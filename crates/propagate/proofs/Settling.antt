@@ -20,17 +20,12 @@ use Rattle.propagation_laws.proofs.GroupRule.{table_frame}
 use Rattle.propagation_laws.proofs.ConstraintRule.{constraint_frame, all-rules}
 use Rattle.propagate.proofs.Passes.{s-few, pass-local, pass-first, propagated_in, passes-few}
 use Rattle.propagation_laws.proofs.AtTheEnd.{late, at-the-end}
-use Rattle.table.specs.Table.{Whole}
 use Rattle.propagate.proofs.Skipping.{loose-start, loose-more, loose-ends}
-use Rattle.propagate.specs.Skip.{loose, tenable_first, reached, Ran}
+use Rattle.propagate.specs.Skip.{Whole, loose, tenable_first, Ran}
 
 abbrev on_table : (List Group → List Group) → Outcome (List Group) → Outcome (List Group)
 on_table f contradiction = contradiction
 on_table f (fixpoint k t) = fixpoint k (f t)
-
-reached-some : (k : ℕ) (u : List Group) → (k ≡ 0 → ⊥) → reached k u ≡ fixpoint k u
-reached-some zero u h = absurd (h refl)
-reached-some (suc k) u h = refl
 
 -- the test of the first places, before they are taken or after
 test-first : (s : ℕ) (cs : List Constraint) (o : Outcome (List Group)) → late (tenable cs) (on_table (take s) o) ≡ on_table (take s) (late (tenable_first s cs) o)
@@ -95,13 +90,9 @@ module _ (m : Model) (r : T (in_range m)) where
       go ih false = ih
 
   -- the first pass
-  module _ (a b : List Group) (w : Whole a) (v : Whole b) (e : b ≡ run (rules m.n m.s (take m.c m.constraints)) a)
-      (q : Bool) (is : q ≡ same_table (take m.s b) (take m.s a)) where
-    pub first-same : q ≡ true → Ran m.n m.s (take m.c m.constraints) (2 * m.s * m.n + 1) 0 a 1 b
-    first-same h = record {
-      whole = v;
-      outcome = ap (late (tenable_first m.s cs)) (loose-ends m.n m.s cs (2 * m.s * m.n + 1) 0 a b e (omega arith) (sym (is ∙ same_first a b w e) ∙ h));
-    }
+  module _ (a b : List Group) (w : Whole a) (e : b ≡ run (rules m.n m.s (take m.c m.constraints)) a) (q : Bool) (is : q ≡ same_table (take m.s b) (take m.s a)) where
+    pub first-same : q ≡ true → Ran m.n m.s (take m.c m.constraints) (2 * m.s * m.n + 1) 0 a (fixpoint 1 b)
+    first-same h = record { outcome = ap (late (tenable_first m.s cs)) (loose-ends m.n m.s cs (2 * m.s * m.n + 1) 0 a b e (omega arith) (sym (is ∙ same_first a b w e) ∙ h)) }
 
     -- where it leaves the first s places, the model is as it was
     pub as_it_was : q ≡ true → a ≡ m.groups → (o : Propagated) → o ≡ record { refusal = 0; passes = 1; model = m } → o ≡ propagated_as m (fixpoint 1 (take m.s b))
@@ -111,10 +102,9 @@ module _ (m : Model) (r : T (in_range m)) where
         let whole : take m.s b ++ drop m.s m.groups ≡ m.groups = ap (λ (x : List Group). x ++ drop m.s m.groups) z ∙ take-append-drop m.s m.groups in
         is-o ∙ sym (ap (λ (x : List Group). record { refusal = 0; passes = 1; model = record { n = m.n; s = m.s; c = m.c; groups = x; constraints = m.constraints } }) whole)
 
-    pub first-other : q ≡ false → (k : ℕ) (u : List Group) → Ran m.n m.s (take m.c m.constraints) (2 * m.s * m.n + 1) 1 b k u
-        → Ran m.n m.s (take m.c m.constraints) (2 * m.s * m.n + 1) 0 a k u
-    first-other h k u ran = record {
-      whole = ran.whole;
+    pub first-other : q ≡ false → (o : Outcome (List Group)) → Ran m.n m.s (take m.c m.constraints) (2 * m.s * m.n + 1) 1 b o
+        → Ran m.n m.s (take m.c m.constraints) (2 * m.s * m.n + 1) 0 a o
+    first-other h o ran = record {
       outcome = ap (late (tenable_first m.s cs)) (loose-more m.n m.s cs (2 * m.s * m.n + 1) 0 a b e (omega arith) (sym (is ∙ same_first a b w e) ∙ h)) ∙ ran.outcome;
     }
 
@@ -126,33 +116,31 @@ module _ (m : Model) (r : T (in_range m)) where
       let rs = rules m.n m.s (constraints_of m) in
       at-the-end F rs (all-reduce F rs (all-rules m.n m.s (constraints_of m))) (2 * m.s * m.n + 1) 0 (table_of m)
 
-  module _ (a : List Group) (w : Whole a) (is : a ≡ m.groups) (k : ℕ) (u : List Group) (ran : Ran m.n m.s (take m.c m.constraints) (2 * m.s * m.n + 1) 0 a k u) where
-    outcome-is : outcome m ≡ late (tenable (constraints_of m)) (on_table (take m.s) (reached k u))
+  module _ (a : List Group) (w : Whole a) (is : a ≡ m.groups) where
+    outcome-is : (o : Outcome (List Group)) → Ran m.n m.s (take m.c m.constraints) (2 * m.s * m.n + 1) 0 a o → outcome m ≡ late (tenable (constraints_of m)) (on_table (take m.s) o)
     unfolding constraints_of
-    outcome-is =
+    outcome-is o ran =
         let e : table_of m ≡ take m.s a = unfold table_of in sym (ap (take m.s) is) in
         outcome-late
         ∙ ap (λ (x : List Group). late (tenable (constraints_of m)) (iterate (λ y. true) same_table (pass m) (2 * m.s * m.n + 1) 0 x)) e
         ∙ ap (late (tenable (constraints_of m))) (first-places (2 * m.s * m.n + 1) 0 a w)
         ∙ test-first m.s (constraints_of m) (loose m.n m.s (take m.c m.constraints) (2 * m.s * m.n + 1) 0 a)
         ∙ ap (on_table (take m.s)) (ap (late (tenable_first m.s (constraints_of m))) (loose-start m.n m.s (take m.c m.constraints) (2 * m.s * m.n + 1) a) ∙ ran.outcome)
-        ∙ sym (test-first m.s (constraints_of m) (reached k u))
+        ∙ sym (test-first m.s (constraints_of m) o)
 
     ended : (x : Outcome (List Group)) → outcome m ≡ x → (o : Propagated) → o ≡ propagated_as m x → (o ≡ propagated m) × (o.passes ≤ 2 * m.s * m.n + 1)
     ended x q o e =
         let p : o ≡ propagated m = e ∙ sym (propagated_in m r ∙ ap (propagated_as m) q) in
         (p, subst (λ (y : Propagated). y.passes ≤ 2 * m.s * m.n + 1) (sym p) (passes-few m))
 
-    pub no_fuel : k ≡ 0 → (o : Propagated) → o ≡ refused_propagation 21 m → (o ≡ propagated m) × (o.passes ≤ 2 * m.s * m.n + 1)
-    no_fuel z o e = ended contradiction (outcome-is ∙ ap (λ (j : ℕ). late (tenable (constraints_of m)) (on_table (take m.s) (reached j u))) z) o e
+    pub no_fuel : Ran m.n m.s (take m.c m.constraints) (2 * m.s * m.n + 1) 0 a contradiction → (o : Propagated) → o ≡ refused_propagation 21 m
+        → (o ≡ propagated m) × (o.passes ≤ 2 * m.s * m.n + 1)
+    no_fuel ran o e = ended contradiction (outcome-is contradiction ran) o e
 
-    module _ (some : k ≡ 0 → ⊥) (q : Bool) (t : q ≡ tenable (take m.c m.constraints) (take m.s u)) where
+    module _ (k : ℕ) (u : List Group) (ran : Ran m.n m.s (take m.c m.constraints) (2 * m.s * m.n + 1) 0 a (fixpoint k u)) (q : Bool) (t : q ≡ tenable (take m.c m.constraints) (take m.s u)) where
       by-test : outcome m ≡ cond q (fixpoint k (take m.s u)) contradiction
       unfolding constraints_of
-      by-test =
-          outcome-is
-          ∙ ap (λ (x : Outcome (List Group)). late (tenable (constraints_of m)) (on_table (take m.s) x)) (reached-some k u some)
-          ∙ sym (ap (λ (x : Bool). cond x (fixpoint k (take m.s u)) contradiction) t)
+      by-test = outcome-is (fixpoint k u) ran ∙ sym (ap (λ (x : Bool). cond x (fixpoint k (take m.s u)) contradiction) t)
 
       pub not-tenable : q ≡ false → (o : Propagated) → o ≡ refused_propagation 21 m → (o ≡ propagated m) × (o.passes ≤ 2 * m.s * m.n + 1)
       not-tenable f o e = ended contradiction (by-test ∙ ap (λ (x : Bool). cond x (fixpoint k (take m.s u)) contradiction) f) o e

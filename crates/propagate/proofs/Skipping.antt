@@ -1,6 +1,7 @@
 -- Laws of the loops over marked rules: what is not marked is passed over. Assumes nothing.
 use mathlib.Core.Path.{◌≡◌, refl, sym, ap, ◌∙◌, subst}
 use Prim.Native.Nat.{ℕ, zero, suc, ◌+◌, ◌-◌, ◌/◌, ◌%◌, ◌≤◌, ◌<◌}
+use native.Mathlib.Nat.{sub-zero}
 use native.Mathlib.Numerals.{add-one}
 use native.Mathlib.Omega.{arith}
 use mathlib.Core.Bool.{Bool, true, false, cond, ◌&&◌, ◌||◌}
@@ -10,7 +11,8 @@ use lib.Dec.{T, leb}
 use lib.ListN.{length, drop, take, replicate, drop_of_length-le, get_or-replicate}
 use Rattle.model.specs.declared.Group.{Group}
 use Rattle.model.specs.declared.Constraint.{Constraint}
-use Rattle.model.specs.Lists.{every, pairwise, range}
+use Rattle.std.specs.List.{list_all}
+use Rattle.model.specs.Lists.{pairwise, range}
 use Rattle.model.specs.Difference.{may_differ}
 use Rattle.model.specs.Model.{zero_constraint}
 use Rattle.model.specs.Words.{full, has}
@@ -22,14 +24,27 @@ use Rattle.model.proofs.Loops.{drop-next}
 use Rattle.propagation_laws.proofs.Fixpoint.{all-reduce, run-reduces, run-unchanged}
 use Rattle.propagation_laws.proofs.GroupRule.{table_frame}
 use Rattle.propagation_laws.proofs.ConstraintRule.{constraint_frame, all-rules}
-use Rattle.rules.proofs.Rules.{groups-start, groups-next, groups-end}
 use Rattle.table.proofs.Rules.{run-append}
 use Rattle.propagation_laws.proofs.AtTheEnd.{late}
 use Rattle.marks.specs.Marks.{marked, NoneFrom}
 use Rattle.propagate.proofs.Noting.{or-left-none, or_right_none, false-or}
-use Rattle.propagate.specs.Skip.{line_at, Index, Quiet, Step, Any, Line, group_rules, GroupsStill, GroupSteps, loose, tenable_first, reached}
+use Rattle.propagate.specs.Skip.{line_at, Index, Quiet, Step, Any, Line, group_rules, GroupsStill, GroupSteps, loose, tenable_first}
 
 -- ---- groups i + 1 to s
+
+groups-start : (s : ℕ) (t : List Group) → run (map group_rule_at (range 1 s)) t ≡ run (map group_rule_at (range 1 (s - 0))) t
+groups-start s t = ap (λ (k : ℕ). run (map group_rule_at (range 1 k)) t) (sym (sub-zero s))
+
+module _ (s i : ℕ) (t : List Group) where
+  groups-next : i < s → (u : List Group) → u ≡ group_rule_at (i + 1) t
+      → run (map group_rule_at (range (i + 1) (s - i))) t ≡ run (map group_rule_at (range (i + 1 + 1) (s - (i + 1)))) u
+  groups-next h u e = ap (λ (k : ℕ). run (map group_rule_at (range (i + 1) k)) t) left ∙ rw (e, add-one (i + 1))
+    where
+      left : s - i ≡ suc (s - (i + 1))
+      left = omega arith
+
+  groups-end : s ≤ i → run (map group_rule_at (range (i + 1) (s - i))) t ≡ t
+  groups-end h = let z : s - i ≡ 0 = omega arith in ap (λ (k : ℕ). run (map group_rule_at (range (i + 1) k)) t) z
 
 abbrev groups_from : ℕ → ℕ → List Group → List Group
 groups_from s i = run (map group_rule_at (range (i + 1) (s - i)))
@@ -83,16 +98,6 @@ module _ (s : ℕ) (index : List ℕ) (a : List Group) (gs ls : List ℕ) where
         let b = inv.goes n cs x q in
         let v = p.quiet n s cs tt x b.1 in
         (b.0 ∙ groups-next s i t h u p.next ∙ skip_quiet n s cs gs₂ ls₂ u (i + 1) j v l f, v);
-  }
-
-  pub groups-done : (i : ℕ) (changed : Bool) (t : List Group) (gs₁ ls₁ : List ℕ) → GroupsLeft s index i changed a gs ls t gs₁ ls₁ → s ≤ i
-      → GroupSteps s index changed a gs ls t gs₁ ls₁
-  groups-done i changed t gs₁ ls₁ inv h = record {
-    same = inv.same;
-    still = inv.still;
-    goes = λ n cs x q.
-        let b = inv.goes n cs x q in
-        (sym (b.0 ∙ groups-end s i t h), b.1);
   }
 
 -- ---- lines j + 1 on
@@ -230,15 +235,15 @@ module _ (n s : ℕ) (cs : List Constraint) (fuel k : ℕ) (a t : List Group) (e
   pub loose-more : same_table t a ≡ false → loose n s cs (fuel - k) k a ≡ loose n s cs (fuel - (k + 1)) (k + 1) t
   loose-more f = once ∙ rw f
 
-  pub loose-ends : same_table t a ≡ true → loose n s cs (fuel - k) k a ≡ reached (k + 1) t
+  pub loose-ends : same_table t a ≡ true → loose n s cs (fuel - k) k a ≡ fixpoint (k + 1) t
   loose-ends f = once ∙ rw (f, add-one k)
 
 pub loose-start : (n s : ℕ) (cs : List Constraint) (fuel : ℕ) (a : List Group) → loose n s cs fuel 0 a ≡ loose n s cs (fuel - 0) 0 a
 loose-start n s cs fuel a = let e : fuel ≡ fuel - 0 = omega arith in ap (λ (f : ℕ). loose n s cs f 0 a) e
 
-pub loose_none : (n s : ℕ) (cs : List Constraint) (fuel k : ℕ) (a u : List Group) → fuel ≤ k → loose n s cs (fuel - k) k a ≡ reached 0 u
+pub loose_none : (n s : ℕ) (cs : List Constraint) (fuel k : ℕ) (a : List Group) → fuel ≤ k → loose n s cs (fuel - k) k a ≡ contradiction
 unfolding iterate
-loose_none n s cs fuel k a u h = let e : fuel - k ≡ 0 = omega arith in ap (λ (f : ℕ). loose n s cs f k a) e
+loose_none n s cs fuel k a h = let e : fuel - k ≡ 0 = omega arith in ap (λ (f : ℕ). loose n s cs f k a) e
 
 -- ---- at the start every rule is marked
 
@@ -266,7 +271,7 @@ module _ (n s : ℕ) (cs : List Constraint) (fuel : ℕ) (first : List Group) (k
   is-pass : t ≡ run (rules n s cs) inv.start
   is-pass = pass-end n s cs inv.start t j changed gs ls inv.left h
 
-  pub pass-stops : changed ≡ false → loose n s cs (fuel - 1) 1 first ≡ reached (k + 1) t
+  pub pass-stops : changed ≡ false → loose n s cs (fuel - 1) 1 first ≡ fixpoint (k + 1) t
   pass-stops off = inv.outcome ∙ loose-ends n s cs fuel k inv.start t is-pass more (flag_off n s cs inv.start t j changed gs ls inv.left off)
 
   pub pass-goes-on : changed ≡ true → loose n s cs (fuel - 1) 1 first ≡ loose n s cs (fuel - (k + 1)) (k + 1) t
@@ -309,8 +314,7 @@ module _ (n s : ℕ) (cs : List Constraint) where
 -- at a pass's end
 module _ (n s : ℕ) (cs : List Constraint) (fuel : ℕ) (first : List Group) (k j : ℕ) (changed : Bool) (t : List Group) (gs ls : List ℕ)
     (inv : PassLeft n s cs fuel first k j changed t gs ls) (h : length cs ≤ j) (more : k < fuel) where
-  pub pass-bad : changed ≡ true → (q : Bool) → q ≡ consistent (take s t) → q ≡ false → (u : List Group)
-      → late (tenable_first s cs) (loose n s cs (fuel - 1) 1 first) ≡ late (tenable_first s cs) (reached 0 u)
-  pass-bad on q e f u =
-      let bad : tenable_first s cs t ≡ false = unfold tenable in ap (λ (x : Bool). x && every (may_differ (take s t)) cs) (sym e ∙ f) in
+  pub pass-bad : changed ≡ true → (q : Bool) → q ≡ consistent (take s t) → q ≡ false → late (tenable_first s cs) (loose n s cs (fuel - 1) 1 first) ≡ contradiction
+  pass-bad on q e f =
+      let bad : tenable_first s cs t ≡ false = unfold tenable in ap (λ (x : Bool). x && list_all (may_differ (take s t)) cs) (sym e ∙ f) in
       ap (late (tenable_first s cs)) (pass-goes-on n s cs fuel first k j changed t gs ls inv h more on) ∙ late-bad n s cs (fuel - (k + 1)) (k + 1) t bad

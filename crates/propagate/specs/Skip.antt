@@ -1,17 +1,18 @@
 -- Settling that skips: the invariant of the marks, and what each step does.
-use Rattle.std.specs.Prelude.{ℕ, zero, suc, ◌+◌, ◌-◌, ◌*◌, ◌≤◌, ◌<◌, ◌≡◌, Bool, true, false, List, map, T, length, get_or, set, take}
+use Rattle.std.specs.Prelude.{ℕ, ◌+◌, ◌-◌, ◌*◌, ◌≤◌, ◌<◌, ◌≡◌, Bool, true, false, Option, Some, None, List, map, T, length, get_or, set, take}
 use Rattle.model.specs.declared.Group.{Group}
 use Rattle.model.specs.declared.Constraint.{Constraint}
 use Rattle.model.specs.declared.Model.{Model}
-use Rattle.model.specs.Lists.{every, range}
+use Rattle.std.specs.List.{list_all}
+use Rattle.model.specs.Lists.{range}
 use Rattle.model.specs.Limits.{limits}
 use Rattle.model.specs.Clauses.{groups_of}
 use Rattle.model.specs.Model.{zero_group, zero_constraint, code_in_range, constraint_sized}
 use Rattle.model.specs.Propagate.{group_rule_at, constraint_rule, run, rules, tenable, same_table, Outcome, contradiction, fixpoint, iterate}
-use Rattle.table.specs.Table.{Whole}
 use Rattle.marks.specs.Marks.{marked}
 use Rattle.propagation_laws.proofs.Locality.{owns}
 use Rattle.propagation_laws.proofs.AtTheEnd.{late}
+use Rattle.propagate.specs.declared.Run.{Run}
 
 -- line j
 abbrev pub line_at : List Constraint → ℕ → Constraint
@@ -41,9 +42,9 @@ pub record Covers (index gs ls : List ℕ) (x : List Group) (gs₁ ls₁ : List 
   pub lines : (j : ℕ) → j < 256 → marked ls₁ j ≡ false
       → (marked ls j ≡ false) × ((i : ℕ) → marked index (256 * i + j) ≡ true → get_or y i zero_group ≡ get_or x i zero_group)
 
--- the words of marks are there
-abbrev pub Words : List ℕ → List ℕ → Type 0
-Words gs ls = (length gs ≡ 4) × (length ls ≡ 4)
+-- the table has its places
+abbrev pub Whole : List Group → Type 0
+Whole t = length t ≡ limits.groups
 
 -- u is the table, x the one last seen and y the one seen now, which has the group at place i; r is whether it differed
 pub record Notes (r : Bool) (i : ℕ) (index : List ℕ) (u x y : List Group) (gs ls gs₁ ls₁ : List ℕ) : Type 0 where
@@ -51,7 +52,6 @@ pub record Notes (r : Bool) (i : ℕ) (index : List ℕ) (u x y : List Group) (g
   pub same : r ≡ false → y ≡ x
   pub still : get_or u i zero_group ≡ get_or x i zero_group → r ≡ false
   pub covers : Covers index gs ls x gs₁ ls₁ y
-  pub words : Words gs₁ ls₁
 
 -- the same of all groups of a line, which are all that differ: then the table is seen
 pub record NotesAll (r : Bool) (index : List ℕ) (u x y : List Group) (gs ls gs₁ ls₁ : List ℕ) : Type 0 where
@@ -59,23 +59,16 @@ pub record NotesAll (r : Bool) (index : List ℕ) (u x y : List Group) (gs ls gs
   pub same : r ≡ false → y ≡ x
   pub still : u ≡ x → r ≡ false
   pub covers : Covers index gs ls x gs₁ ls₁ y
-  pub words : Words gs₁ ls₁
 
 -- the two tables differ at places of the first k groups alone
 abbrev pub DifferIn : List ℕ → List Group → List Group → Type 0
 DifferIn ids x u = (i : ℕ) → owns ids i ≡ false → get_or x i zero_group ≡ get_or u i zero_group
 
--- the table is the one last seen
-pub record Ready (t x : List Group) (gs ls : List ℕ) : Type 0 where
-  pub whole : Whole t
-  pub seen : x ≡ t
-  pub words : Words gs ls
-
 -- a step by a rule: r is whether it changed the table t, u is the next
 pub record Step (Of : ℕ → List Constraint → Type 0) (rule : List Group → List Group) (index : List ℕ) (r : Bool) (t : List Group) (gs ls : List ℕ)
     (u y : List Group) (gs₁ ls₁ : List ℕ) : Type 0 where
   pub next : u ≡ rule t
-  pub ready : Ready u y gs₁ ls₁
+  pub seen : y ≡ u
   pub same : r ≡ false → u ≡ t
   pub still : rule t ≡ t → r ≡ false
   pub quiet : (n s : ℕ) (cs : List Constraint) → Of n cs → Index cs index → Quiet n s cs gs ls t → Quiet n s cs gs₁ ls₁ u
@@ -110,21 +103,19 @@ loose n s cs fuel k t = iterate (λ y. true) same_table (run (rules n s cs)) fue
 abbrev pub tenable_first : ℕ → List Constraint → List Group → Bool
 tenable_first s cs t = tenable cs (take s t)
 
--- the passes made and the table; 0 passes where the fuel did not do, or the table is not tenable
-abbrev pub reached : ℕ → List Group → Outcome (List Group)
-reached zero t = contradiction
-reached (suc k) t = fixpoint (suc k) t
+-- the passes made and the table; none where the fuel did not do, or the table is not tenable
+abbrev pub reached : Option Run → Outcome (List Group)
+reached None = contradiction
+reached (Some r) = fixpoint r.passes r.table
 
 -- from t on, after j passes
-pub record Ran (n s : ℕ) (cs : List Constraint) (fuel j : ℕ) (t : List Group) (k : ℕ) (u : List Group) : Type 0 where
-  pub whole : Whole u
-  pub outcome : late (tenable_first s cs) (loose n s cs (fuel - j) j t) ≡ late (tenable_first s cs) (reached k u)
+pub record Ran (n s : ℕ) (cs : List Constraint) (fuel j : ℕ) (t : List Group) (o : Outcome (List Group)) : Type 0 where
+  pub outcome : late (tenable_first s cs) (loose n s cs (fuel - j) j t) ≡ late (tenable_first s cs) o
 
 -- u is the table after a pass from a model's own, with the answers of both tests
 pub record After (m : Model) (u : List Group) (same ok : Bool) : Type 0 where
-  pub sized : T (every constraint_sized m.constraints)
+  pub sized : T (list_all constraint_sized m.constraints)
   pub before : Whole m.groups
-  pub whole : Whole u
   pub pass : u ≡ run (rules m.n m.s (take m.c m.constraints)) m.groups
   pub same-is : same ≡ same_table (take m.s u) (take m.s m.groups)
   pub ok-is : ok ≡ tenable (take m.c m.constraints) (take m.s u)

@@ -1,283 +1,130 @@
 // A step of settling that skips: a rule, then its groups are held against the table last seen, and where one differs, its rules are marked.
-ghost use Rattle.std.specs.Prelude.{◌≡◌, ◌+◌, ◌*◌, ◌≤◌, ◌<◌, T, length, take, true};
+ghost use Rattle.std.specs.Prelude.{◌≡◌, ◌+◌, ◌≤◌, ◌<◌, T, length};
 ghost use Rattle.model.specs.Limits.{limits};
-ghost use Rattle.model.specs.Lists.{every, between};
+ghost use Rattle.std.specs.List.{list_all};
+ghost use Rattle.model.specs.Lists.{between};
 ghost use Rattle.model.specs.Model.{constraint_in_range, constraint_sized};
-ghost use Rattle.model.specs.Propagate.{group_rule_at, constraint_rule, consistent};
-ghost use Rattle.table.specs.Table.{zipped, Whole};
-ghost use Rattle.propagate.specs.Skip.{Index, Words, Notes, NotesAll, DifferIn, Ready, Step, Any, Line, GroupSteps, AddsLine};
+ghost use Rattle.model.specs.Propagate.{group_rule_at, constraint_rule};
+ghost use Rattle.propagate.specs.Skip.{Index, Notes, NotesAll, DifferIn, Step, Any, Line, GroupSteps, AddsLine};
 
-use model::{Constraint, Group, Model};
+use model::Constraint;
+use table::Table;
 
 // ---- the index: row g - 1 marks the lines of group g
 
-fn index_line(index: &mut [u64; marks::INDEX], ids: [u32; Model::MEMBERS], count: usize, j: usize)
-    requires { (j < 256) × ((count ≤ limits.members) × (T (every (between 1 limits.groups) (take count ids)) × (length index.old ≡ 1024))) }
-    ensures { AddsLine j (take count ids) index.old index.new }
+fn index_line(index: &mut [u64; marks::INDEX], ids: &[u32], j: usize)
+    requires { (j < 256) × T (list_all (between 1 limits.groups) ids.now) }
+    ensures { AddsLine j ids.now index.old index.new }
 {
-    let mut k: usize = 0;
-    while k < count {
-        let i = ids[k] as usize - 1;
-        marks::mark_in_index(index, i * marks::PLACES + j);
-        k += 1;
+    for g in ids {
+        marks::mark(index, (*g as usize - 1) * marks::PLACES + j);
     }
 }
 
-pub(crate) fn index_of(
-    constraints: [Constraint; Model::CONSTRAINTS],
-    c: usize,
-) -> [u64; marks::INDEX]
-    requires { (c ≤ limits.constraints) × (T (every (constraint_in_range limits.groups) (take c constraints)) × T (every constraint_sized constraints)) }
-    ensures { Index (take c constraints) result }
+#[tactic(auto, using(crate::proofs::Indexing::members_few))]
+pub(crate) fn index_of(lines: &[Constraint]) -> [u64; marks::INDEX]
+    requires { (length lines.now ≤ limits.constraints) × (T (list_all (constraint_in_range limits.groups) lines.now) × T (list_all constraint_sized lines.now)) }
+    ensures { Index lines.now result }
 {
     let mut index = [0u64; marks::INDEX];
-    let mut j: usize = 0;
-    while j < c {
-        let l = constraints[j];
-        let ids = l.groups;
-        index_line(&mut index, ids, range::member_count(l.code, l.count), j);
-        j += 1;
+    for (j, l) in lines.iter().enumerate() {
+        index_line(
+            &mut index,
+            &l.groups[..range::member_count(l.code, l.count)],
+            j,
+        );
     }
     index
 }
 
-// ---- the table last seen
+// ---- the table last seen, and the rules marked since
+
+#[derive(Clone, Copy)]
+pub(crate) struct Seen {
+    pub(crate) table: Table,
+    pub(crate) groups: [u64; marks::WORDS],
+    pub(crate) lines: [u64; marks::WORDS],
+}
 
 // The group at place i is seen; where it differs, its rule and its lines are marked.
-fn note(
-    fixed: &[u64; Model::GROUPS],
-    possible: &[u64; Model::GROUPS],
-    low: &[u32; Model::GROUPS],
-    high: &[u32; Model::GROUPS],
-    lastfixed: &mut [u64; Model::GROUPS],
-    lastpossible: &mut [u64; Model::GROUPS],
-    lastlow: &mut [u32; Model::GROUPS],
-    lasthigh: &mut [u32; Model::GROUPS],
-    groups: &mut [u64; marks::WORDS],
-    lines: &mut [u64; marks::WORDS],
-    index: &[u64; marks::INDEX],
-    i: usize,
-) -> bool
-    requires { (i < 256) × (Whole (zipped fixed.now possible.now low.now high.now) × (Whole (zipped lastfixed.old lastpossible.old lastlow.old lasthigh.old) × Words groups.old lines.old)) }
-    ensures { Notes result i index.now (zipped fixed.now possible.now low.now high.now) (zipped lastfixed.old lastpossible.old lastlow.old lasthigh.old) (zipped lastfixed.new lastpossible.new lastlow.new lasthigh.new) groups.old lines.old groups.new lines.new }
+fn note(t: &Table, seen: &mut Seen, index: &[u64; marks::INDEX], i: usize) -> bool
+    requires { i < 256 }
+    ensures { Notes result i index.now t.now seen.old.table seen.new.table seen.old.groups seen.old.lines seen.new.groups seen.new.lines }
 {
-    let now = Group {
-        fixed: fixed[i],
-        possible: possible[i],
-        low: low[i],
-        high: high[i],
-    };
-    let was = Group {
-        fixed: lastfixed[i],
-        possible: lastpossible[i],
-        low: lastlow[i],
-        high: lasthigh[i],
-    };
-    if group_rule::is_same(now, was) {
+    if t[i] == seen.table[i] {
         return false;
     }
-    lastfixed[i] = now.fixed;
-    lastpossible[i] = now.possible;
-    lastlow[i] = now.low;
-    lasthigh[i] = now.high;
-    marks::mark(groups, i);
-    marks::add_row(lines, index, i);
+    seen.table[i] = t[i];
+    marks::mark(&mut seen.groups, i);
+    marks::add_row(&mut seen.lines, index, i);
     true
 }
 
-// The same for the first groups of a line.
-fn note_members(
-    fixed: &[u64; Model::GROUPS],
-    possible: &[u64; Model::GROUPS],
-    low: &[u32; Model::GROUPS],
-    high: &[u32; Model::GROUPS],
-    lastfixed: &mut [u64; Model::GROUPS],
-    lastpossible: &mut [u64; Model::GROUPS],
-    lastlow: &mut [u32; Model::GROUPS],
-    lasthigh: &mut [u32; Model::GROUPS],
-    groups: &mut [u64; marks::WORDS],
-    lines: &mut [u64; marks::WORDS],
-    index: &[u64; marks::INDEX],
-    ids: [u32; Model::MEMBERS],
-    count: usize,
-) -> bool
-    requires { (count ≤ limits.members) × (T (every (between 1 limits.groups) (take count ids)) × (DifferIn (take count ids) (zipped lastfixed.old lastpossible.old lastlow.old lasthigh.old) (zipped fixed.now possible.now low.now high.now) × (Whole (zipped fixed.now possible.now low.now high.now) × (Whole (zipped lastfixed.old lastpossible.old lastlow.old lasthigh.old) × Words groups.old lines.old)))) }
-    ensures { NotesAll result index.now (zipped fixed.now possible.now low.now high.now) (zipped lastfixed.old lastpossible.old lastlow.old lasthigh.old) (zipped lastfixed.new lastpossible.new lastlow.new lasthigh.new) groups.old lines.old groups.new lines.new }
+// The same for the groups of a line.
+fn note_members(t: &Table, seen: &mut Seen, index: &[u64; marks::INDEX], ids: &[u32]) -> bool
+    requires { T (list_all (between 1 limits.groups) ids.now) × DifferIn ids.now seen.old.table t.now }
+    ensures { NotesAll result index.now t.now seen.old.table seen.new.table seen.old.groups seen.old.lines seen.new.groups seen.new.lines }
 {
     let mut changed = false;
-    let mut k: usize = 0;
-    while k < count {
-        let i = ids[k] as usize - 1;
-        let moved = note(
-            fixed,
-            possible,
-            low,
-            high,
-            lastfixed,
-            lastpossible,
-            lastlow,
-            lasthigh,
-            groups,
-            lines,
-            index,
-            i,
-        );
+    for g in ids {
+        let moved = note(t, seen, index, *g as usize - 1);
         changed = changed | moved;
-        k += 1;
     }
     changed
 }
 
 // ---- steps
 
-fn group_step(
-    fixed: &mut [u64; Model::GROUPS],
-    possible: &mut [u64; Model::GROUPS],
-    low: &mut [u32; Model::GROUPS],
-    high: &mut [u32; Model::GROUPS],
-    lastfixed: &mut [u64; Model::GROUPS],
-    lastpossible: &mut [u64; Model::GROUPS],
-    lastlow: &mut [u32; Model::GROUPS],
-    lasthigh: &mut [u32; Model::GROUPS],
-    groups: &mut [u64; marks::WORDS],
-    lines: &mut [u64; marks::WORDS],
-    index: &[u64; marks::INDEX],
-    i: usize,
-) -> bool
-    requires { (i < 256) × Ready (zipped fixed.old possible.old low.old high.old) (zipped lastfixed.old lastpossible.old lastlow.old lasthigh.old) groups.old lines.old }
-    ensures { Step Any (group_rule_at (i + 1)) index.now result (zipped fixed.old possible.old low.old high.old) groups.old lines.old (zipped fixed.new possible.new low.new high.new) (zipped lastfixed.new lastpossible.new lastlow.new lasthigh.new) groups.new lines.new }
+fn group_step(t: &mut Table, seen: &mut Seen, index: &[u64; marks::INDEX], i: usize) -> bool
+    requires { (i < 256) × (seen.old.table ≡ t.old) }
+    ensures { Step Any (group_rule_at (i + 1)) index.now result t.old seen.old.groups seen.old.lines t.new seen.new.table seen.new.groups seen.new.lines }
 {
-    rules::group_rule_at(fixed, possible, low, high, i);
-    let changed = note(
-        fixed,
-        possible,
-        low,
-        high,
-        lastfixed,
-        lastpossible,
-        lastlow,
-        lasthigh,
-        groups,
-        lines,
-        index,
-        i,
-    );
+    rules::group_rule_at(t, i);
+    let changed = note(t, seen, index, i);
     if !changed {
-        marks::unmark(groups, i);
+        marks::unmark(&mut seen.groups, i);
     }
     changed
 }
 
 // The marked groups of 1 to s, in order.
 pub(crate) fn group_steps(
-    fixed: &mut [u64; Model::GROUPS],
-    possible: &mut [u64; Model::GROUPS],
-    low: &mut [u32; Model::GROUPS],
-    high: &mut [u32; Model::GROUPS],
-    lastfixed: &mut [u64; Model::GROUPS],
-    lastpossible: &mut [u64; Model::GROUPS],
-    lastlow: &mut [u32; Model::GROUPS],
-    lasthigh: &mut [u32; Model::GROUPS],
-    groups: &mut [u64; marks::WORDS],
-    lines: &mut [u64; marks::WORDS],
+    t: &mut Table,
+    seen: &mut Seen,
     index: &[u64; marks::INDEX],
     s: usize,
 ) -> bool
-    requires { (s ≤ 256) × Ready (zipped fixed.old possible.old low.old high.old) (zipped lastfixed.old lastpossible.old lastlow.old lasthigh.old) groups.old lines.old }
-    ensures ready { Ready (zipped fixed.new possible.new low.new high.new) (zipped lastfixed.new lastpossible.new lastlow.new lasthigh.new) groups.new lines.new }
-    ensures group_steps { GroupSteps s index.now result (zipped fixed.old possible.old low.old high.old) groups.old lines.old (zipped fixed.new possible.new low.new high.new) groups.new lines.new }
+    requires { (s ≤ 256) × (seen.old.table ≡ t.old) }
+    ensures seen { seen.new.table ≡ t.new }
+    ensures group_steps { GroupSteps s index.now result t.old seen.old.groups seen.old.lines t.new seen.new.groups seen.new.lines }
 {
     let mut changed = false;
-    let mut i = marks::next(groups, 0);
+    let mut i = marks::next(&seen.groups, 0);
     while i < s {
-        let moved = group_step(
-            fixed,
-            possible,
-            low,
-            high,
-            lastfixed,
-            lastpossible,
-            lastlow,
-            lasthigh,
-            groups,
-            lines,
-            index,
-            i,
-        );
+        let moved = group_step(t, seen, index, i);
         changed = changed | moved;
-        i = marks::next(groups, i + 1);
+        i = marks::next(&seen.groups, i + 1);
     }
     changed
 }
 
+#[tactic(auto, using(crate::proofs::Indexing::member_few))]
 pub(crate) fn line_step(
-    fixed: &mut [u64; Model::GROUPS],
-    possible: &mut [u64; Model::GROUPS],
-    low: &mut [u32; Model::GROUPS],
-    high: &mut [u32; Model::GROUPS],
-    lastfixed: &mut [u64; Model::GROUPS],
-    lastpossible: &mut [u64; Model::GROUPS],
-    lastlow: &mut [u32; Model::GROUPS],
-    lasthigh: &mut [u32; Model::GROUPS],
-    groups: &mut [u64; marks::WORDS],
-    lines: &mut [u64; marks::WORDS],
+    t: &mut Table,
+    seen: &mut Seen,
     index: &[u64; marks::INDEX],
-    l: Constraint,
+    l: &Constraint,
     n: u32,
     j: usize,
 ) -> bool
-    requires { (j < 256) × ((n ≤ limits.entrants) × (T (constraint_in_range limits.groups l) × ((limits.members ≤ length l.groups) × Ready (zipped fixed.old possible.old low.old high.old) (zipped lastfixed.old lastpossible.old lastlow.old lasthigh.old) groups.old lines.old))) }
-    ensures { Step (Line n j l) (constraint_rule n l) index.now result (zipped fixed.old possible.old low.old high.old) groups.old lines.old (zipped fixed.new possible.new low.new high.new) (zipped lastfixed.new lastpossible.new lastlow.new lasthigh.new) groups.new lines.new }
+    requires { (j < 256) × ((n ≤ limits.entrants) × (T (constraint_in_range limits.groups l.now) × ((limits.members ≤ length l.now.groups) × (seen.old.table ≡ t.old)))) }
+    ensures { Step (Line n j l.now) (constraint_rule n l.now) index.now result t.old seen.old.groups seen.old.lines t.new seen.new.table seen.new.groups seen.new.lines }
 {
-    let all = model::entrants(n);
-    rules::constraint_rule(fixed, possible, low, high, all, l);
-    let ids = l.groups;
-    let changed = note_members(
-        fixed,
-        possible,
-        low,
-        high,
-        lastfixed,
-        lastpossible,
-        lastlow,
-        lasthigh,
-        groups,
-        lines,
-        index,
-        ids,
-        range::member_count(l.code, l.count),
-    );
+    rules::constraint_rule(t, model::entrants(n), l);
+    let count = range::member_count(l.code, l.count);
+    let changed = note_members(t, seen, index, &l.groups[..count]);
     if !changed {
-        marks::unmark(lines, j);
+        marks::unmark(&mut seen.lines, j);
     }
     changed
-}
-
-// ---- the look at the groups
-
-// Groups 1 to s, as the arrays have them.
-pub(crate) fn all_consistent(
-    fixed: &[u64; Model::GROUPS],
-    possible: &[u64; Model::GROUPS],
-    low: &[u32; Model::GROUPS],
-    high: &[u32; Model::GROUPS],
-    s: usize,
-) -> bool
-    requires { (s ≤ 256) × Whole (zipped fixed.now possible.now low.now high.now) }
-    ensures { result ≡ consistent (take s (zipped fixed.now possible.now low.now high.now)) }
-{
-    let mut i: usize = 0;
-    while i < s {
-        let g = Group {
-            fixed: fixed[i],
-            possible: possible[i],
-            low: low[i],
-            high: high[i],
-        };
-        if !group_rule::is_consistent(g) {
-            return false;
-        }
-        i += 1;
-    }
-    true
 }

@@ -12,7 +12,8 @@ use Rattle.model.specs.declared.Literal.TheVariants.{Pos, Neg}
 use Rattle.model.specs.declared.Group.{Group}
 use Rattle.model.specs.declared.Constraint.{Constraint}
 use Rattle.model.specs.declared.Model.{Model}
-use Rattle.model.specs.Lists.{every, pairwise, range}
+use Rattle.std.specs.List.{list_all}
+use Rattle.model.specs.Lists.{pairwise, range}
 use Rattle.model.specs.Words.{bit}
 use Rattle.model.specs.Clauses.{clauses_of}
 use Rattle.model.specs.Model.{group_at, table_of, constraints_of}
@@ -150,15 +151,15 @@ module _ (u : List Group) (ok : T (table_frame.ok u)) (a b : ℕ) (s : Sub b a) 
 
 -- the frame of tables among the constraints cs: no code 7 constraint has all entrants settled alike
 abbrev pub constraint_frame : List Constraint → Frame (List Group)
-constraint_frame cs = tested table_frame (λ t. every (may_differ t) cs) (differs-up cs)
+constraint_frame cs = tested table_frame (λ t. list_all (may_differ t) cs) (differs-up cs)
 
 pub constraint_rule_lem : (n : ℕ) (cs : List Constraint) (c : Constraint) → Memᴰ c cs → Rule (constraint_frame cs) (constraint_rule n c)
 unfolding constraint_rule
 constraint_rule_lem n cs c i = record {
   reduces = λ x. run-reduces table_frame (rs x) (all-reduce table_frame (rs x) (all x)) x;
   keeps = λ u x t e w.
-      let ok = and_left (table_frame.ok u) (every (may_differ u) cs) t in
-      let may = all-at (λ d. T (may_differ u d)) i (every-all (may_differ u) cs (and_right (table_frame.ok u) (every (may_differ u) cs) t)) in
+      let ok = and_left (table_frame.ok u) (list_all (may_differ u) cs) t in
+      let may = all-at (λ d. T (may_differ u d)) i (every-all (may_differ u) cs (and_right (table_frame.ok u) (list_all (may_differ u) cs) t)) in
       (run-rule table_frame (rs x) (all x)).keeps u x ok
       (let P : (List Group → List Group) → Type 0 = λ r. r u ≡ u in
       let own = run-unchanged table_frame (rs u) (all-reduce table_frame (rs u) (all u)) u e in
@@ -186,7 +187,7 @@ all-rules n s cs =
     let R : (List Group → List Group) → Type 0 = Rule (constraint_frame cs) in
     all_append R (map group_rule_at (range 1 s)) (map (constraint_rule n) cs)
     (all_map R group_rule_at (range 1 s)
-    (all_of (λ g. R (group_rule_at g)) (λ g. tested-rule table_frame (λ t. every (may_differ t) cs) (differs-up cs) (group_rule_at g) (group_rule_at_lem g)) (range 1 s)))
+    (all_of (λ g. R (group_rule_at g)) (λ g. tested-rule table_frame (λ t. list_all (may_differ t) cs) (differs-up cs) (group_rule_at g) (group_rule_at_lem g)) (range 1 s)))
     (all_map R (constraint_rule n) cs (all-mem (λ c. R (constraint_rule n c)) cs (constraint_rule_lem n cs)))
 
 -- ---- the rules of some of the constraints
@@ -207,7 +208,7 @@ pub candidate-is : (m : Model) (t : List Group)
     → is_candidate m t ≡ candidate (constraint_frame (constraints_of m)) (rules m.n m.s (constraints_of m)) (table_of m) t
 unfolding is_candidate consistent unchanged same_table within
 candidate-is m t =
-    table (every group_consistent t) (every (λ r. pairwise same_group (r t) t) (rules m.n m.s (constraints_of m))) (every (may_differ t) (constraints_of m))
+    table (list_all group_consistent t) (list_all (λ r. pairwise same_group (r t) t) (rules m.n m.s (constraints_of m))) (list_all (may_differ t) (constraints_of m))
     (pairwise group_within t (table_of m))
   where
     table : (a b d w : Bool) → (a && (b && d) && w) ≡ (a && d && b && w)

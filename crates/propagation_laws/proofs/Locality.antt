@@ -13,7 +13,8 @@ use Rattle.model.specs.declared.Literal.{Literal}
 use Rattle.model.specs.declared.Literal.TheVariants.{Pos, Neg}
 use Rattle.model.specs.declared.Group.{Group}
 use Rattle.model.specs.declared.Constraint.{Constraint}
-use Rattle.model.specs.Lists.{any, total, on_place, between}
+use Rattle.std.specs.List.{list_any}
+use Rattle.model.specs.Lists.{total, on_place, between}
 use Rattle.model.specs.Limits.{limits}
 use Rattle.model.specs.Words.{full}
 use Rattle.model.specs.Clauses.{member_count, is_difference, rule_clauses, of_group, groups_of, clauses_of}
@@ -29,7 +30,7 @@ use Rattle.propagation_laws.proofs.Meaning.{rule_clauses_lem}
 -- ---- the places of some groups
 
 abbrev pub owns : List ℕ → ℕ → Bool
-owns gs i = any (λ g. eqb (g - 1) i) gs
+owns gs i = list_any (λ g. eqb (g - 1) i) gs
 
 or_right : (a b : Bool) → b ≡ true → (a || b) ≡ true
 or_right true b e = refl

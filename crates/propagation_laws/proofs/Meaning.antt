@@ -14,7 +14,8 @@ use lib.ListN.{length, get_or, take}
 use Rattle.model.specs.declared.Literal.{Literal}
 use Rattle.model.specs.declared.Literal.TheVariants.{Pos, Neg}
 use Rattle.model.specs.declared.Constraint.{Constraint}
-use Rattle.model.specs.Lists.{every, any, range}
+use Rattle.std.specs.List.{list_all, list_any}
+use Rattle.model.specs.Lists.{range}
 use Rattle.model.specs.Words.{less, has}
 use Rattle.model.specs.Clauses.{by_entrant, member_count, short_clauses, union_clauses, member_clauses, rule_clauses, of_group, groups_of, clauses_of}
 use Rattle.model.specs.Model.{code_in_range}
@@ -32,7 +33,7 @@ literal_for v (Pos g) = v g
 literal_for v (Neg g) = not (v g)
 
 unfoldable pub clauses_for : (ℕ → Bool) → List (List Literal) → Bool
-clauses_for v cs = every (any (literal_for v)) cs
+clauses_for v cs = list_all (list_any (literal_for v)) cs
 
 unfoldable pub clauses_hold : List ℕ → Constraint → ℕ → Bool
 clauses_hold d c e = clauses_for (λ g. has (set_of d g) e) (clauses_of c)
@@ -48,8 +49,8 @@ pub over-members : (v : ℕ → Bool) (c : Constraint)
     → clauses_for v (clauses_of c) ≡ clauses_for (λ i. v (get_or c.groups i 0)) (rule_clauses c.code c.count)
 unfolding clauses_for clauses_of
 over-members v c =
-    every_map (any (literal_for v)) (map (of_group c.groups)) (rule_clauses c.code c.count)
-    ∙ every-ext (λ ls. any (literal_for v) (map (of_group c.groups) ls)) (any (literal_for (λ i. v (get_or c.groups i 0))))
+    every_map (list_any (literal_for v)) (map (of_group c.groups)) (rule_clauses c.code c.count)
+    ∙ every-ext (λ ls. list_any (literal_for v) (map (of_group c.groups) ls)) (list_any (literal_for (λ i. v (get_or c.groups i 0))))
     (λ ls. any-map (literal_for v) (of_group c.groups) ls
     ∙ any-ext (λ l. literal_for v (of_group c.groups l)) (literal_for (λ i. v (get_or c.groups i 0))) (of_group_lem v c.groups) ls)
     (rule_clauses c.code c.count)
@@ -69,8 +70,8 @@ pub same-clauses : (v u : ℕ → Bool) (code k : ℕ) → T (by_entrant code) �
     → clauses_for v (member_clauses code k) ≡ clauses_for u (member_clauses code k)
 unfolding clauses_for
 same-clauses v u code k t h =
-    every-all_ext (any (literal_for v)) (any (literal_for u)) (member_clauses code k)
-    (all-imp (All (λ l. variable l < member_count code k)) (λ ls. any (literal_for v) ls ≡ any (literal_for u) ls)
+    every-all_ext (list_any (literal_for v)) (list_any (literal_for u)) (member_clauses code k)
+    (all-imp (All (λ l. variable l < member_count code k)) (λ ls. list_any (literal_for v) ls ≡ list_any (literal_for u) ls)
     (λ ls below. any-all_ext (literal_for v) (literal_for u) ls
     (all-imp (λ l. variable l < member_count code k) (λ l. literal_for v l ≡ literal_for u l) literal ls below))
     (member_clauses code k) (members-below code k t))
@@ -82,9 +83,9 @@ same-clauses v u code k t h =
 -- ---- the union
 
 -- "not any, or b", element by element
-none_or : (x : ℕ → Bool) (b : Bool) (l : List ℕ) → every (λ i. not (x i) || (b || false)) l ≡ (not (any x l) || b)
+none_or : (x : ℕ → Bool) (b : Bool) (l : List ℕ) → list_all (λ i. not (x i) || (b || false)) l ≡ (not (list_any x l) || b)
 none_or x b [] = refl
-none_or x b (i ∷ l) = ap (λ t. (not (x i) || (b || false)) && t) (none_or x b l) ∙ table (x i) (any x l) b
+none_or x b (i ∷ l) = ap (λ t. (not (x i) || (b || false)) && t) (none_or x b l) ∙ table (x i) (list_any x l) b
   where
     table : (p q b : Bool) → ((not p || (b || false)) && (not q || b)) ≡ (not (p || q) || b)
     table true true true = refl
@@ -97,13 +98,13 @@ none_or x b (i ∷ l) = ap (λ t. (not (x i) || (b || false)) && t) (none_or x b
     table false false false = refl
 
 union-clauses : (k : ℕ) (x : ℕ → Bool)
-    → clauses_for x (union_clauses k) ≡ ((any x (range 1 k) || (not (x 0) || false)) && (not (any x (range 1 k)) || x 0))
+    → clauses_for x (union_clauses k) ≡ ((list_any x (range 1 k) || (not (x 0) || false)) && (not (list_any x (range 1 k)) || x 0))
 unfolding clauses_for union_clauses literal_for
 union-clauses k x =
     ap₂ ◌&&◌
     (any_append (literal_for x) (map Pos (range 1 k)) (Neg 0 ∷ [])
     ∙ ap (λ b. b || (not (x 0) || false)) (any-map (literal_for x) Pos (range 1 k)))
-    (every_map (any (literal_for x)) (λ i. Neg i ∷ Pos 0 ∷ []) (range 1 k) ∙ none_or x (x 0) (range 1 k))
+    (every_map (list_any (literal_for x)) (λ i. Neg i ∷ Pos 0 ∷ []) (range 1 k) ∙ none_or x (x 0) (range 1 k))
 
 -- ---- each code, for one entrant: the clauses say that the first set has it exactly when the meaning says so
 
@@ -199,7 +200,7 @@ module _ (k : ℕ) (S : ℕ → ℕ) where
   code6 : Says 6
   unfolding meaning member_count member_clauses
   code6 =
-      let u : ℕ → Bool = λ e. any (λ i. has (S i) e) (range 1 k) in
+      let u : ℕ → Bool = λ e. list_any (λ i. has (S i) e) (range 1 k) in
       let is = is_set (union (map S (range 1 k))) (λ x y z. (y || (not x || false)) && (not y || x)) (λ y z. y) u (λ e. true) tt
       (λ e. has-union (map S (range 1 k)) e ∙ any-map (λ w. has w e) S (range 1 k)) in
       rw (add-one k) (
@@ -235,11 +236,11 @@ none k = by_code (λ code. T (clauses_for (λ i. false) (member_clauses code k))
     (subst T (sym (union-clauses k (λ i. false))) (rw (any_none (λ i. false) (range 1 k) (all_of (λ i. false ≡ false) (λ i. refl) (range 1 k))) tt))
 
 pub meaning-below : (c : Constraint) → T (code_in_range c.code c.count) → T (by_entrant c.code) → limits.members ≤ length c.groups
-    → (n : ℕ) (d : List ℕ) → ((g : ℕ) → set_of d g < 2 ^ n) → constraint_true d c ≡ every (clauses_hold d c) (range 0 n)
+    → (n : ℕ) (d : List ℕ) → ((g : ℕ) → set_of d g < 2 ^ n) → constraint_true d c ≡ list_all (clauses_hold d c) (range 0 n)
 unfolding clauses_hold
 meaning-below c r six wide n d small =
     let is = meaning-clauses c r six wide d in
-    T-ext (constraint_true d c) (every (clauses_hold d c) (range 0 n)) (λ t. range-every (clauses_hold d c) 0 n (λ e _ _. is.0 t e))
+    T-ext (constraint_true d c) (list_all (clauses_hold d c) (range 0 n)) (λ t. range-every (clauses_hold d c) 0 n (λ e _ _. is.0 t e))
     (λ k. is.1 (λ e. go e (every-range (clauses_hold d c) 0 n k e) (dec_lt e n)))
   where
     go : (e : ℕ) → (0 ≤ e → e < 0 + n → T (clauses_hold d c e)) → Dec (e < n) → T (clauses_hold d c e)

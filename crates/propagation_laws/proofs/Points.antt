@@ -15,7 +15,8 @@ use Rattle.model.specs.declared.Literal.TheVariants.{Pos, Neg}
 use Rattle.model.specs.declared.Group.{Group}
 use Rattle.model.specs.declared.Constraint.{Constraint}
 use Rattle.model.specs.declared.Model.{Model}
-use Rattle.model.specs.Lists.{every, any, pairwise, total, range}
+use Rattle.std.specs.List.{list_all, list_any}
+use Rattle.model.specs.Lists.{pairwise, total, range}
 use Rattle.model.specs.Words.{less, size_in, size, inside, has}
 use Rattle.model.specs.Clauses.{by_entrant, member_count, is_difference, rule_clauses, groups_of, clauses_of}
 use Rattle.model.specs.Limits.{limits}
@@ -59,7 +60,7 @@ points-consistent : (d : List ℕ) → T (consistent (points d))
 unfolding consistent
 points-consistent [] = tt
 points-consistent (w ∷ d) =
-    and_both (group_consistent (point w)) (every group_consistent (points d))
+    and_both (group_consistent (point w)) (list_all group_consistent (points d))
     (is-consistent (point w) (record { fits = sub_refl w; order = le_refl (size w) })) (points-consistent d)
 
 -- ---- the group rule
@@ -104,7 +105,7 @@ module _ (d : List ℕ) where
       twice true = refl
       twice false = refl
 
-  has-all-false : (e w : ℕ) (ls : List Literal) → has (all_false (points d) w ls) e ≡ (has w e && not (any (literal_for (v e)) ls))
+  has-all-false : (e w : ℕ) (ls : List Literal) → has (all_false (points d) w ls) e ≡ (has w e && not (list_any (literal_for (v e)) ls))
   unfolding all_false
   has-all-false e w [] = table (has w e)
     where
@@ -113,8 +114,8 @@ module _ (d : List ℕ) where
       table false = refl
   has-all-false e w (l ∷ ls) =
       has-all-false e (false_in (points d) w l) ls
-      ∙ ap (λ b. b && not (any (literal_for (v e)) ls)) (has-false e w l)
-      ∙ table (has w e) (literal_for (v e) l) (any (literal_for (v e)) ls)
+      ∙ ap (λ b. b && not (list_any (literal_for (v e)) ls)) (has-false e w l)
+      ∙ table (has w e) (literal_for (v e) l) (list_any (literal_for (v e)) ls)
     where
       table : (x y z : Bool) → ((x && not y) && not z) ≡ (x && not (y || z))
       table true true z = refl
@@ -122,10 +123,10 @@ module _ (d : List ℕ) where
       table false y z = refl
 
   -- the entrants for whom a literal is made true have it true
-  made : (a : ℕ) (l : Literal) (others : List Literal) → ((e : ℕ) → T (has a e) → T (literal_for (v e) l || any (literal_for (v e)) others))
+  made : (a : ℕ) (l : Literal) (others : List Literal) → ((e : ℕ) → T (has a e) → T (literal_for (v e) l || list_any (literal_for (v e)) others))
       → (e : ℕ) → T (has (all_false (points d) a others) e) → T (literal_for (v e) l)
   made a l others h e t =
-      table (has a e) (literal_for (v e) l) (any (literal_for (v e)) others) (h e) (subst T (has-all-false e a others) t)
+      table (has a e) (literal_for (v e) l) (list_any (literal_for (v e)) others) (h e) (subst T (has-all-false e a others) t)
     where
       table : (x y z : Bool) → (T x → T (y || z)) → T (x && not z) → T y
       table x true z s t = tt
@@ -154,22 +155,22 @@ module _ (d : List ℕ) where
   made-same (Pos g) w h = place_same (g - 1) (fixed_with w) (points d) zero_group (rw (group_of d g) (fixed_same w (set_of d g) h))
   made-same (Neg g) w h = place_same (g - 1) (possible_without w) (points d) zero_group (rw (group_of d g) (possible-same w (set_of d g) h))
 
-  literal-same : (a : ℕ) (l : Literal) (others : List Literal) → ((e : ℕ) → T (has a e) → T (literal_for (v e) l || any (literal_for (v e)) others))
+  literal-same : (a : ℕ) (l : Literal) (others : List Literal) → ((e : ℕ) → T (has a e) → T (literal_for (v e) l || list_any (literal_for (v e)) others))
       → literal_rule a l others (points d) ≡ points d
   unfolding literal_rule
   literal-same a l others h = made-same l (all_false (points d) a others) (made a l others h)
 
-  rules-same : (a : ℕ) (before after : List Literal) → ((e : ℕ) → T (has a e) → T (any (literal_for (v e)) before || any (literal_for (v e)) after))
+  rules-same : (a : ℕ) (before after : List Literal) → ((e : ℕ) → T (has a e) → T (list_any (literal_for (v e)) before || list_any (literal_for (v e)) after))
       → Unchanged table_frame (clause_rules a before after) (points d)
   unfolding clause_rules
   rules-same a before [] h = tt
   rules-same a before (l ∷ after) h = (
     literal-same a l (before ++ after)
         (λ e i. rw (any_append (literal_for (v e)) before after)
-        (swap (any (literal_for (v e)) before) (literal_for (v e) l) (any (literal_for (v e)) after) (h e i))),
+        (swap (list_any (literal_for (v e)) before) (literal_for (v e) l) (list_any (literal_for (v e)) after) (h e i))),
     rules-same a (before ++ (l ∷ [])) after
         (λ e i. rw (any_append (literal_for (v e)) before (l ∷ []))
-        (move (any (literal_for (v e)) before) (literal_for (v e) l) (any (literal_for (v e)) after) (h e i))),
+        (move (list_any (literal_for (v e)) before) (literal_for (v e) l) (list_any (literal_for (v e)) after) (h e i))),
   )
     where
       swap : (a b c : Bool) → T (a || (b || c)) → T (b || (a || c))
@@ -190,8 +191,8 @@ module _ (d : List ℕ) where
   clauses-same a [] h = tt
   clauses-same a (c ∷ cs) h = (
     run-fixed table_frame (clause_rules a [] c) (points d)
-        (rules-same a [] c (λ e i. and_left (any (literal_for (v e)) c) (every (any (literal_for (v e))) cs) (h e i))),
-    clauses-same a cs (λ e i. and_right (any (literal_for (v e)) c) (every (any (literal_for (v e))) cs) (h e i)),
+        (rules-same a [] c (λ e i. and_left (list_any (literal_for (v e)) c) (list_all (list_any (literal_for (v e))) cs) (h e i))),
+    clauses-same a cs (λ e i. and_right (list_any (literal_for (v e)) c) (list_all (list_any (literal_for (v e))) cs) (h e i)),
   )
 
   -- ---- code 7: the entrants not settled alike are those in just one of the two sets
@@ -404,10 +405,10 @@ module _ (d : List ℕ) where
 
   constraints-differ : (s : ℕ) (cs : List Constraint) → All (λ c. T (constraint_in_range s c)) cs
       → All (λ c. T (leb limits.members (length c.groups))) cs → All (λ c. T (constraint_true d c)) cs
-      → T (every (may_differ (points d)) cs)
+      → T (list_all (may_differ (points d)) cs)
   constraints-differ s [] r k t = tt
   constraints-differ s (c ∷ cs) r k t =
-      and_both (may_differ (points d) c) (every (may_differ (points d)) cs)
+      and_both (may_differ (points d) c) (list_all (may_differ (points d)) cs)
       (constraint-differs s c r.0 (leb→le limits.members (length c.groups) k.0) t.0) (constraints-differ s cs r.1 k.1 t.1)
 
 -- ---- a solution is a candidate
@@ -418,14 +419,14 @@ solution_candidate m r k d t =
     let P : (List Group → List Group) → Type 0 = λ f. f (points d) ≡ points d in
     let a = pairwise allowed (table_of m) d in
     let cs = constraints_of m in
-    let b = every (constraint_true d) cs in
+    let b = list_all (constraint_true d) cs in
     let ranges = every-all (constraint_in_range m.s) cs (in_range_lem m r).constraints in
     let members = every-all (λ c. leb limits.members (length c.groups)) cs k in
     let all_true_lem = every-all (constraint_true d) cs (and_right a b t) in
     rw (candidate-is m (points d))
     (whole (constraint_frame cs) (rules m.n m.s cs) (table_of m) (points d)
     (record {
-      consistent = and_both (consistent (points d)) (every (may_differ (points d)) cs) (points-consistent d) (constraints-differ d m.s cs ranges members all_true_lem);
+      consistent = and_both (consistent (points d)) (list_all (may_differ (points d)) cs) (points-consistent d) (constraints-differ d m.s cs ranges members all_true_lem);
       unchanged = all_append P (map group_rule_at (range 1 m.s)) (map (constraint_rule m.n) cs)
           (all_map P group_rule_at (range 1 m.s) (all_of (λ g. group_rule_at g (points d) ≡ points d) (points-group d) (range 1 m.s)))
           (all_map P (constraint_rule m.n) cs (constraints-same d m.n m.s cs ranges members all_true_lem));

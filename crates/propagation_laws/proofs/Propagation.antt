@@ -14,7 +14,8 @@ use Rattle.model.specs.declared.Group.{Group}
 use Rattle.model.specs.declared.Constraint.{Constraint}
 use Rattle.model.specs.declared.Model.{Model}
 use Rattle.model.specs.declared.Propagated.{Propagated}
-use Rattle.model.specs.Lists.{every, pairwise, total}
+use Rattle.std.specs.List.{list_all}
+use Rattle.model.specs.Lists.{pairwise, total}
 use Rattle.model.specs.Model.{table_of, constraints_of, with_table, members_sized, group_in_range, constraint_in_range, in_range}
 use Rattle.model.specs.Difference.{may_differ}
 use Rattle.model.specs.Propagate.{rules, pass, group_consistent, consistent, tenable, same_table, Outcome, contradiction, fixpoint, outcome, refused_propagation, propagated_as, propagated, is_fixpoint}
@@ -75,14 +76,14 @@ pub record Propagation (m : Model) (a : Propagated) : Type 0 where
 
 -- ---- the bound
 
-total-bound : (n k : ℕ) (l : List Group) → T (every (group_in_range n) (take k l)) → total slack (take k l) ≤ 2 * k * n
+total-bound : (n k : ℕ) (l : List Group) → T (list_all (group_in_range n) (take k l)) → total slack (take k l) ≤ 2 * k * n
 total-bound n zero l t = omega arith
 total-bound n (suc k) [] t = omega arith
 total-bound n (suc k) (g ∷ l) t =
-    let r = group-range n g (and_left (group_in_range n g) (every (group_in_range n) (take k l)) t) in
+    let r = group-range n g (and_left (group_in_range n g) (list_all (group_in_range n) (take k l)) t) in
     omega (
       arith,
-      total-bound n k l (and_right (group_in_range n g) (every (group_in_range n) (take k l)) t),
+      total-bound n k l (and_right (group_in_range n g) (list_all (group_in_range n) (take k l)) t),
       size-le n g.possible r.small,
       r.top,
     )
@@ -117,24 +118,24 @@ module _ (m : Model) where
 
 -- ---- the model with the answer's table
 
-ranges : (n : ℕ) (t u : List Group) → T (consistent t) → T (within t u) → T (every (group_in_range n) u) → T (every (group_in_range n) t)
+ranges : (n : ℕ) (t u : List Group) → T (consistent t) → T (within t u) → T (list_all (group_in_range n) u) → T (list_all (group_in_range n) t)
 unfolding consistent within
 ranges n [] [] c w r = tt
 ranges n [] (y ∷ u) c w r = absurd w
 ranges n (x ∷ t) [] c w r = absurd w
 ranges n (x ∷ t) (y ∷ u) c w r =
-    let s = sound x (and_left (group_consistent x) (every group_consistent t) c) in
+    let s = sound x (and_left (group_consistent x) (list_all group_consistent t) c) in
     let i = narrow x y (and_left (group_within x y) (pairwise group_within t u) w) in
-    let q = group-range n y (and_left (group_in_range n y) (every (group_in_range n) u) r) in
-    and_both (group_in_range n x) (every (group_in_range n) t)
+    let q = group-range n y (and_left (group_in_range n y) (list_all (group_in_range n) u) r) in
+    and_both (group_in_range n x) (list_all (group_in_range n) t)
     (is-group-range n x (record { fits = s.fits; small = omega (arith, sub-le i.pos, q.small); order = s.order; top = omega (arith, i.hi, q.top) }))
-    (ranges n t u (and_right (group_consistent x) (every group_consistent t) c) (and_right (group_within x y) (pairwise group_within t u) w)
-    (and_right (group_in_range n y) (every (group_in_range n) u) r))
+    (ranges n t u (and_right (group_consistent x) (list_all group_consistent t) c) (and_right (group_within x y) (pairwise group_within t u) w)
+    (and_right (group_in_range n y) (list_all (group_in_range n) u) r))
 
 module _ (m : Model) (r : T (in_range m)) (t : List Group) (c : Candidate (constraint_frame (constraints_of m)) (rules m.n m.s (constraints_of m)) (table_of m) t) where
   sound-table : T (consistent t)
   unfolding consistent
-  sound-table = and_left (table_frame.ok t) (every (may_differ t) (constraints_of m)) c.consistent
+  sound-table = and_left (table_frame.ok t) (list_all (may_differ t) (constraints_of m)) c.consistent
 
   long : length t ≡ length (take m.s m.groups)
   unfolding table_of
@@ -183,7 +184,7 @@ module _ (m : Model) (r : T (in_range m)) (t : List Group) (c : Candidate (const
       propagated-is (with_table m t) still-in-range ∙ ap (propagated_as (with_table m t)) once ∙ (λ i. record { refusal = 0; passes = 1; model = twice i })
 
   -- a solution says that its sets are within the table and its constraints true
-  solution-is : (d : List ℕ) → is_solution (with_table m t) d ≡ (within (points d) t && every (constraint_true d) (constraints_of m))
+  solution-is : (d : List ℕ) → is_solution (with_table m t) d ≡ (within (points d) t && list_all (constraint_true d) (constraints_of m))
   unfolding is_solution constraints_of
   solution-is d =
       rw (table_is, allowed-points t d) (unfold with_table in refl)
@@ -196,7 +197,7 @@ module _ (m : Model) (r : T (in_range m)) (t : List Group) (c : Candidate (const
       a = pairwise allowed (table_of m) d
 
       b : Bool
-      b = every (constraint_true d) (constraints_of m)
+      b = list_all (constraint_true d) (constraints_of m)
 
       to : T (is_solution m d) → T (within (points d) t && b)
       to h = and_both (within (points d) t) b (w (points d) (solution_candidate m r k d h)) (and_right a b h)
@@ -219,10 +220,10 @@ module _ (m o : Model) (rm : T (in_range m)) (ro : T (in_range o)) where
       let c = parts (frame m) (rs m) (table_of m) u t in
       let D : Constraint → Type 0 = λ d. T (may_differ u d) in
       whole (frame o) (rules m.n m.s (constraints_of o)) (table_of o) u (record {
-        consistent = and_both (table_frame.ok u) (every (may_differ u) (constraints_of o))
-            (and_left (table_frame.ok u) (every (may_differ u) (constraints_of m)) c.consistent)
+        consistent = and_both (table_frame.ok u) (list_all (may_differ u) (constraints_of o))
+            (and_left (table_frame.ok u) (list_all (may_differ u) (constraints_of m)) c.consistent)
             (all-every (may_differ u) (constraints_of o) (all-mem D (constraints_of o) (λ d i. all-at D (h.constraints d i)
-            (every-all (may_differ u) (constraints_of m) (and_right (table_frame.ok u) (every (may_differ u) (constraints_of m)) c.consistent)))));
+            (every-all (may_differ u) (constraints_of m) (and_right (table_frame.ok u) (list_all (may_differ u) (constraints_of m)) c.consistent)))));
         unchanged = fewer-rules m.n m.s (constraints_of m) (constraints_of o) h.constraints u c.unchanged;
         inside = table_frame.w-trans u (table_of m) (table_of o) c.inside h.table;
       })
@@ -253,9 +254,9 @@ pub tighter-solutions : (m o : Model) → Tighter m o → (d : List ℕ) → T (
 unfolding is_solution
 tighter-solutions m o h d t =
     let a = pairwise allowed (table_of m) d in
-    let b = every (constraint_true d) (constraints_of m) in
+    let b = list_all (constraint_true d) (constraints_of m) in
     let P : Constraint → Type 0 = λ c. T (constraint_true d c) in
-    and_both (pairwise allowed (table_of o) d) (every (constraint_true d) (constraints_of o))
+    and_both (pairwise allowed (table_of o) d) (list_all (constraint_true d) (constraints_of o))
     (rw (allowed-points (table_of o) d)
     (unfold within in table_frame.w-trans (points d) (table_of m) (table_of o) (rw (allowed-points (table_of m) d) at (and_left a b t)) h.table))
     (all-every (constraint_true d) (constraints_of o)

@@ -11,7 +11,8 @@ use lib.Seq.{get_or-take}
 use Rattle.model.specs.declared.Group.{Group}
 use Rattle.model.specs.declared.Constraint.{Constraint}
 use Rattle.model.specs.declared.Model.{Model}
-use Rattle.model.specs.Lists.{every, between, distinct}
+use Rattle.std.specs.List.{list_all}
+use Rattle.model.specs.Lists.{between, distinct}
 use Rattle.model.specs.Words.{inside}
 use Rattle.model.specs.Limits.{limits, groups_for}
 use Rattle.model.specs.Clauses.{by_entrant, member_count, groups_of}
@@ -61,14 +62,14 @@ module _ (s : ℕ) (c : Constraint) (t : T (constraint_in_range s c)) where
   unfolding constraint_in_range
   constraint-code =
       let a = code_in_range c.code c.count in
-      let b = every (between 1 s) (groups_of c) in
+      let b = list_all (between 1 s) (groups_of c) in
       and_left a b (and_left (a && b) (distinct (groups_of c)) t)
 
-  pub groups-in : T (every (between 1 s) (groups_of c))
+  pub groups-in : T (list_all (between 1 s) (groups_of c))
   unfolding constraint_in_range
   groups-in =
       let a = code_in_range c.code c.count in
-      let b = every (between 1 s) (groups_of c) in
+      let b = list_all (between 1 s) (groups_of c) in
       and_right a b (and_left (a && b) (distinct (groups_of c)) t)
 
   -- every code but 7 is entrant by entrant
@@ -76,11 +77,11 @@ module _ (s : ℕ) (c : Constraint) (t : T (constraint_in_range s c)) where
   not-seven-entrant other = ⊎_elim (λ six. six) (λ seven. absurd (other seven)) (entrant-or-seven c.code c.count constraint-code)
 
   -- code 7 has two groups
-  pub two-groups : c.code ≡ 7 → T (every (between 1 s) (take 2 c.groups))
+  pub two-groups : c.code ≡ 7 → T (list_all (between 1 s) (take 2 c.groups))
   two-groups seven =
       let two : member_count c.code c.count ≡ 2 = unfold member_count in ap (λ (k : ℕ). member_count k c.count) seven in
-      let all : T (every (between 1 s) (take (member_count c.code c.count) c.groups)) = unfold groups_of in groups-in in
-      subst (λ (k : ℕ). T (every (between 1 s) (take k c.groups))) two all
+      let all : T (list_all (between 1 s) (take (member_count c.code c.count) c.groups)) = unfold groups_of in groups-in in
+      subst (λ (k : ℕ). T (list_all (between 1 s) (take k c.groups))) two all
 
   module _ (i : ℕ) (h : i < member_count c.code c.count) where
     -- a member's group is one of the table's, or 0 where the list is too short
@@ -111,8 +112,8 @@ pub record InRange (m : Model) : Type 0 where
   pub group_count : m.s ≤ limits.groups
   pub group_limit : m.s ≤ groups_for m.n
   pub constraint_count : m.c ≤ limits.constraints
-  pub groups : T (every (group_in_range m.n) (table_of m))
-  pub constraints : T (every (constraint_in_range m.s) (constraints_of m))
+  pub groups : T (list_all (group_in_range m.n) (table_of m))
+  pub constraints : T (list_all (constraint_in_range m.s) (constraints_of m))
 
 pub in_range_lem : (m : Model) → T (in_range m) → InRange m
 unfolding in_range
@@ -120,8 +121,8 @@ in_range_lem m t =
     let a = between 1 limits.entrants m.n in
     let b = between 1 (groups_for m.n) m.s in
     let c = leb m.c limits.constraints in
-    let d = every (group_in_range m.n) (table_of m) in
-    let e = every (constraint_in_range m.s) (constraints_of m) in
+    let d = list_all (group_in_range m.n) (table_of m) in
+    let e = list_all (constraint_in_range m.s) (constraints_of m) in
     let abcd = and_left (a && b && c && d) e t in
     let abc = and_left (a && b && c) d abcd in
     let n = between_le 1 limits.entrants m.n (and_left a b (and_left (a && b) c abc)) in
@@ -143,8 +144,8 @@ is_in_range m r =
     let a = between 1 limits.entrants m.n in
     let b = between 1 (groups_for m.n) m.s in
     let c = leb m.c limits.constraints in
-    let d = every (group_in_range m.n) (table_of m) in
-    and_both (a && b && c && d) (every (constraint_in_range m.s) (constraints_of m))
+    let d = list_all (group_in_range m.n) (table_of m) in
+    and_both (a && b && c && d) (list_all (constraint_in_range m.s) (constraints_of m))
     (and_both (a && b && c) d
     (and_both (a && b) c
     (and_both a b (le-between 1 limits.entrants m.n r.some-entrant r.entrants) (le-between 1 (groups_for m.n) m.s r.some-group r.group_limit))

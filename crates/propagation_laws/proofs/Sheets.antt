@@ -16,7 +16,8 @@ use Rattle.model.specs.declared.Group.{Group}
 use Rattle.model.specs.declared.Constraint.{Constraint}
 use Rattle.model.specs.declared.Model.{Model}
 use Rattle.model.specs.declared.SheetRead.{SheetRead}
-use Rattle.model.specs.Lists.{every, between, distinct, range, total, stop}
+use Rattle.std.specs.List.{list_all}
+use Rattle.model.specs.Lists.{between, distinct, range, total, stop}
 use Rattle.model.specs.Limits.{limits, groups_for}
 use Rattle.model.specs.Clauses.{groups_of}
 use Rattle.model.specs.Model.{zero_group, zero_constraint, zero_model, table_of, constraints_of, Sized, members_sized, group_in_range, code_in_range, constraint_in_range, in_range}
@@ -85,10 +86,10 @@ constraint_good s l e =
     let a = passed (eqb (value_at l 0) 3) 4 _ e in
     let b = passed (code_in_range c.code c.count) 5 _ a.1 in
     let d = passed (eqb (length l / 4) (first_group l + group_count l)) 5 _ b.1 in
-    let f = passed (every (between 1 s) (groups_of c)) 6 _ d.1 in
+    let f = passed (list_all (between 1 s) (groups_of c)) 6 _ d.1 in
     let g = passed (distinct (groups_of c)) 8 _ f.1 in
-    and_both (code_in_range c.code c.count && every (between 1 s) (groups_of c)) (distinct (groups_of c))
-    (and_both (code_in_range c.code c.count) (every (between 1 s) (groups_of c)) b.0 f.0) g.0
+    and_both (code_in_range c.code c.count && list_all (between 1 s) (groups_of c)) (distinct (groups_of c))
+    (and_both (code_in_range c.code c.count) (list_all (between 1 s) (groups_of c)) b.0 f.0) g.0
 
 -- its list has room for as many groups as a constraint may have
 unfoldable whole : Constraint → Bool
@@ -257,7 +258,7 @@ record Parts (ls : List (List ℕ)) (m : Model) : Type 0 where
   entrants : T (between 1 limits.entrants start.n)
   groups : T (between 1 (groups_for start.n) start.s)
   constraints : T (leb start.c limits.constraints)
-  table : T (every (group_in_range start.n) (table_of start))
+  table : T (list_all (group_in_range start.n) (table_of start))
   wide : length start.groups ≡ limits.groups
   empty : start.constraints ≡ zero_model.constraints
   reads : (x : List (List ℕ)) → read_lines (take (suc start.s) ls ++ x) 0 zero_model ≡ read_lines x (suc (start.s + 0)) start
@@ -288,7 +289,7 @@ parts (l ∷ ls) m e =
       entrants = h.entrants;
       groups = h.groups;
       constraints = h.constraints;
-      table = subst (λ (t : List Group). T (every (group_in_range q0.n) t)) (sym (take-sets vs q0.groups s long (omega (arith, zero-wide))))
+      table = subst (λ (t : List Group). T (list_all (group_in_range q0.n) t)) (sym (take-sets vs q0.groups s long (omega (arith, zero-wide))))
           (all-every (group_in_range q0.n) vs (all_map (λ y. T (group_in_range q0.n y)) (group_from q0.n) (take s ls) g.good));
       wide = length-sets q0.groups 0 vs ∙ zero-wide;
       empty = refl;
@@ -305,17 +306,17 @@ pub record Accurate (m : Model) : Type 0 where
   pub sized : Sized m
   pub members : T (members_sized m)
 
-good-constraints : (s : ℕ) (ls : List (List ℕ)) → All (Good s) ls → T (every (constraint_in_range s) (map constraint_from ls))
+good-constraints : (s : ℕ) (ls : List (List ℕ)) → All (Good s) ls → T (list_all (constraint_in_range s) (map constraint_from ls))
 good-constraints s [] g = tt
 good-constraints s (l ∷ ls) g =
-    and_both (constraint_in_range s (constraint_from l)) (every (constraint_in_range s) (map constraint_from ls)) (constraint_good s l g.0.1)
+    and_both (constraint_in_range s (constraint_from l)) (list_all (constraint_in_range s) (map constraint_from ls)) (constraint_good s l g.0.1)
     (good-constraints s ls g.1)
 
-whole-constraints : (s : ℕ) (ls : List (List ℕ)) → All (Good s) ls → T (every whole (map constraint_from ls))
+whole-constraints : (s : ℕ) (ls : List (List ℕ)) → All (Good s) ls → T (list_all whole (map constraint_from ls))
 unfolding constraint_from
 whole-constraints s [] g = tt
 whole-constraints s (l ∷ ls) g =
-    and_both (whole (constraint_from l)) (every whole (map constraint_from ls))
+    and_both (whole (constraint_from l)) (list_all whole (map constraint_from ls))
     (constraint_whole l (constraint-code s (constraint_from l) (constraint_good s l g.0.1))) (whole-constraints s ls g.1)
 
 zero-long : length zero_model.constraints ≡ limits.constraints

@@ -7,7 +7,8 @@ use mathlib.Core.Bool.{Bool, true, false}
 use mathlib.Core.List.{List, [], ◌∷◌}
 use lib.Dec.{T}
 use lib.ListN.{get_or}
-use Rattle.model.specs.Lists.{every, pairwise, total, on_place}
+use Rattle.std.specs.List.{list_all}
+use Rattle.model.specs.Lists.{pairwise, total, on_place}
 use Rattle.model.proofs.Lists.{and_left, and_right, and_both, pairwise-refl, pairwise-trans}
 use Rattle.propagation_laws.proofs.Fixpoint.{Frame, Rule}
 
@@ -39,13 +40,13 @@ module _ {X : Type 0} (F : Frame X) where
       ap₂ {C = List X} (λ a l. a ∷ l) (F.w-antisym x y (first x y xs ys p) (first y x ys xs q))
       (table-antisym xs ys (rest x y xs ys p) (rest y x ys xs q))
 
-  pub table-ok : (x y : List X) → T (pairwise F.within x y) → T (every F.ok x) → T (every F.ok y)
+  pub table-ok : (x y : List X) → T (pairwise F.within x y) → T (list_all F.ok x) → T (list_all F.ok y)
   table-ok [] [] p c = tt
   table-ok [] (y ∷ ys) p c = absurd p
   table-ok (x ∷ xs) [] p c = absurd p
   table-ok (x ∷ xs) (y ∷ ys) p c =
-      and_both (F.ok y) (every F.ok ys) (F.ok-up x y (first x y xs ys p) (and_left (F.ok x) (every F.ok xs) c))
-      (table-ok xs ys (rest x y xs ys p) (and_right (F.ok x) (every F.ok xs) c))
+      and_both (F.ok y) (list_all F.ok ys) (F.ok-up x y (first x y xs ys p) (and_left (F.ok x) (list_all F.ok xs) c))
+      (table-ok xs ys (rest x y xs ys p) (and_right (F.ok x) (list_all F.ok xs) c))
 
   pub table_same : (x y : List X) → T (pairwise F.same x y) → x ≡ y
   table_same [] [] t = refl
@@ -68,19 +69,19 @@ module _ {X : Type 0} (F : Frame X) where
   cons-shrink x y xs ys (inr p) (inl q) = inr (omega (arith, ap (total F.measure) q))
   cons-shrink x y xs ys (inr p) (inr q) = inr (omega arith)
 
-  pub table-shrinks : (x y : List X) → T (every F.ok y) → T (pairwise F.within y x)
+  pub table-shrinks : (x y : List X) → T (list_all F.ok y) → T (pairwise F.within y x)
       → (y ≡ x) ⊎ (total F.measure y < total F.measure x)
   table-shrinks [] [] c p = inl refl
   table-shrinks [] (y ∷ ys) c p = absurd p
   table-shrinks (x ∷ xs) [] c p = absurd p
   table-shrinks (x ∷ xs) (y ∷ ys) c p =
-      cons-shrink x y xs ys (shrink-one x y (and_left (F.ok y) (every F.ok ys) c) (first y x ys xs p) (F.same y x) refl)
-      (table-shrinks xs ys (and_right (F.ok y) (every F.ok ys) c) (rest y x ys xs p))
+      cons-shrink x y xs ys (shrink-one x y (and_left (F.ok y) (list_all F.ok ys) c) (first y x ys xs p) (F.same y x) refl)
+      (table-shrinks xs ys (and_right (F.ok y) (list_all F.ok ys) c) (rest y x ys xs p))
 
   abbrev pub list_frame : Frame (List X)
   list_frame = record {
     within = pairwise F.within;
-    ok = every F.ok;
+    ok = list_all F.ok;
     same = pairwise F.same;
     measure = total F.measure;
     w-refl = pairwise-refl F.within F.w-refl;
@@ -101,15 +102,15 @@ module _ {X : Type 0} (F : Frame X) where
 
   -- r is what the rule does to u, s what it does to x
   pub place-keeps : (i : ℕ) (r s : X → X) → ((u x : X) → T (F.ok u) → r u ≡ u → T (F.within u x) → T (F.within u (s x)))
-      → (u x : List X) → T (every F.ok u) → on_place i r u ≡ u → T (pairwise F.within u x) → T (pairwise F.within u (on_place i s x))
+      → (u x : List X) → T (list_all F.ok u) → on_place i r u ≡ u → T (pairwise F.within u x) → T (pairwise F.within u (on_place i s x))
   place-keeps i r s h [] [] c e w = tt
   place-keeps i r s h [] (x ∷ xs) c e w = absurd w
   place-keeps i r s h (u ∷ us) [] c e w = absurd w
   place-keeps zero r s h (u ∷ us) (x ∷ xs) c e w =
-      both u (s x) us xs (h u x (and_left (F.ok u) (every F.ok us) c) (head_eq e) (first u x us xs w)) (rest u x us xs w)
+      both u (s x) us xs (h u x (and_left (F.ok u) (list_all F.ok us) c) (head_eq e) (first u x us xs w)) (rest u x us xs w)
   place-keeps (suc i) r s h (u ∷ us) (x ∷ xs) c e w =
       both u x us (on_place i s xs) (first u x us xs w)
-      (place-keeps i r s h us xs (and_right (F.ok u) (every F.ok us) c) (tail-eq e) (rest u x us xs w))
+      (place-keeps i r s h us xs (and_right (F.ok u) (list_all F.ok us) c) (tail-eq e) (rest u x us xs w))
 
   pub place-rule : (i : ℕ) (r : X → X) → Rule F r → Rule list_frame (on_place i r)
   place-rule i r h = record { reduces = place-reduces i r h.reduces; keeps = place-keeps i r r h.keeps }

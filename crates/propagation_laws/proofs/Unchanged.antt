@@ -9,7 +9,8 @@ use Rattle.model.specs.declared.Literal.{Literal}
 use Rattle.model.specs.declared.Group.{Group}
 use Rattle.model.specs.declared.Constraint.{Constraint}
 use Rattle.model.specs.declared.Model.{Model}
-use Rattle.model.specs.Lists.{every, range}
+use Rattle.std.specs.List.{list_all}
+use Rattle.model.specs.Lists.{range}
 use Rattle.model.specs.Clauses.{clauses_of}
 use Rattle.model.specs.Model.{zero_group, table_of, constraints_of, group_at}
 use Rattle.model.specs.LimitRules.{limit_rules}
@@ -60,7 +61,7 @@ module _ (m : Model) (h : T (is_fixpoint m)) where
   pub differs-still : All (λ c. T (may_differ (table_of m) c)) (constraints_of m)
   differs-still =
       every-all (may_differ (table_of m)) (constraints_of m)
-      (and_right (table_frame.ok (table_of m)) (every (may_differ (table_of m)) (constraints_of m)) own.consistent)
+      (and_right (table_frame.ok (table_of m)) (list_all (may_differ (table_of m)) (constraints_of m)) own.consistent)
 
   abbrev Still : (List Group → List Group) → Type 0
   Still r = r (table_of m) ≡ table_of m
@@ -69,7 +70,7 @@ module _ (m : Model) (h : T (is_fixpoint m)) where
   unfolding group_at
   group-still g a b =
       settled-group (group_at (table_of m) g) (every-getD group_consistent (table_of m) zero_group (g - 1)
-      (and_left (table_frame.ok (table_of m)) (every (may_differ (table_of m)) (constraints_of m)) own.consistent) (omega arith))
+      (and_left (table_frame.ok (table_of m)) (list_all (may_differ (table_of m)) (constraints_of m)) own.consistent) (omega arith))
       (same_place (g - 1) group_rule (table_of m) zero_group (omega arith) (unfold group_rule_at in at))
     where
       short : length (table_of m) ≤ m.s

@@ -12,7 +12,7 @@ use lib.Bits.{bit_and, bit_or}
 use lib.ListN.{get_or}
 use Rattle.model.specs.declared.Group.{Group}
 use Rattle.model.specs.declared.Constraint.{Constraint}
-use Rattle.model.specs.Lists.{every}
+use Rattle.std.specs.List.{list_all}
 use Rattle.model.specs.Words.{full, size}
 use Rattle.model.specs.Clauses.{is_difference}
 use Rattle.model.specs.Model.{member_at}
@@ -86,8 +86,8 @@ module _ (u x : List Group) (w : T (table_frame.within u x)) (c : Constraint) wh
       go false t = sub_refl (full n)
       go true t = lone_mono (unlike_in u c) (unlike_in x c) unlike-mono t
 
-pub differs-up : (cs : List Constraint) (x y : List Group) → T (table_frame.within x y) → T (every (may_differ x) cs) → T (every (may_differ y) cs)
+pub differs-up : (cs : List Constraint) (x y : List Group) → T (table_frame.within x y) → T (list_all (may_differ x) cs) → T (list_all (may_differ y) cs)
 differs-up [] x y w t = tt
 differs-up (c ∷ cs) x y w t =
-    and_both (may_differ y c) (every (may_differ y) cs) (differ-up x y w c (and_left (may_differ x c) (every (may_differ x) cs) t))
-    (differs-up cs x y w (and_right (may_differ x c) (every (may_differ x) cs) t))
+    and_both (may_differ y c) (list_all (may_differ y) cs) (differ-up x y w c (and_left (may_differ x c) (list_all (may_differ x) cs) t))
+    (differs-up cs x y w (and_right (may_differ x c) (list_all (may_differ x) cs) t))

@@ -2,7 +2,8 @@
 #![tactic(auto)]
 
 ghost use Rattle.std.specs.Prelude.{◌≡◌, ◌≤◌, ◌&&◌, eqb, leb, length, take, drop};
-ghost use Rattle.model.specs.Lists.{every, any, distinct, between};
+ghost use Rattle.std.specs.List.{list_all, list_any};
+ghost use Rattle.model.specs.Lists.{distinct, between};
 ghost use Rattle.model.specs.Limits.{limits, groups_for};
 ghost use Rattle.model.specs.Clauses.{member_count};
 ghost use Rattle.model.specs.Model.{group_in_range, code_in_range, constraint_in_range, in_range};
@@ -47,62 +48,28 @@ pub fn member_count(code: u32, count: u32) -> usize
 
 // The first k numbers are 1 to s.
 pub fn all_between(ids: [u32; Model::MEMBERS], k: usize, s: u32) -> bool
-    ensures { result ≡ every (between 1 s) (take k ids) }
+    ensures { result ≡ list_all (between 1 s) (take k ids) }
 {
-    let mut i: usize = 0;
-    while i < Model::MEMBERS {
-        if k <= i {
-            return true;
-        }
-        if ids[i] < 1 {
-            return false;
-        }
-        if s < ids[i] {
-            return false;
-        }
-        i += 1;
-    }
-    true
+    ids.iter().take(k).all(|id| 1 <= *id && *id <= s)
 }
 
 // Whether x stands among the first k numbers, from place i on.
 fn stands(ids: &[u32; Model::MEMBERS], i: usize, k: usize, x: u32) -> bool
-    requires { (k ≤ limits.members) × (length ids.now ≡ limits.members) }
-    ensures { result ≡ any (eqb x) (drop i (take k ids.now)) }
+    ensures { result ≡ list_any (eqb x) (drop i (take k ids.now)) }
 {
-    let mut j = i;
-    while j < k {
-        if x == ids[j] {
-            return true;
-        }
-        j += 1;
-    }
-    false
-}
-
-fn first_distinct(ids: [u32; Model::MEMBERS], k: usize) -> bool
-    requires { k ≤ limits.members }
-    ensures { result ≡ distinct (take k ids) }
-{
-    let mut i: usize = 0;
-    while i < k {
-        let x = ids[i];
-        if stands(&ids, i + 1, k, x) {
-            return false;
-        }
-        i += 1;
-    }
-    true
+    ids.iter().take(k).skip(i).any(|id| x == *id)
 }
 
 // The first k numbers are all different.
 pub fn all_distinct(ids: [u32; Model::MEMBERS], k: usize) -> bool
     ensures { result ≡ distinct (take k ids) }
 {
-    if k < Model::MEMBERS {
-        return first_distinct(ids, k);
+    for i in 0..k.min(Model::MEMBERS) {
+        if stands(&ids, i + 1, k, ids[i]) {
+            return false;
+        }
     }
-    first_distinct(ids, Model::MEMBERS)
+    true
 }
 
 // A code is 1 to 7, and the count of code 6 is 2 to 16.
@@ -158,31 +125,32 @@ fn sizes_in_range(n: u32, s: u32, c: u32) -> bool
     c as usize <= Model::CONSTRAINTS
 }
 
+fn groups_in_range(groups: &[Group; Model::GROUPS], s: usize, n: u32) -> bool
+    requires { n ≤ limits.entrants }
+    ensures { result ≡ list_all (group_in_range n) (take s groups.now) }
+{
+    groups.iter().take(s).all(|g| group_in_range(*g, n))
+}
+
+fn constraints_in_range(constraints: &[Constraint; Model::CONSTRAINTS], c: usize, s: u32) -> bool
+    ensures { result ≡ list_all (constraint_in_range s) (take c constraints.now) }
+{
+    constraints
+        .iter()
+        .take(c)
+        .all(|line| constraint_in_range(*line, s))
+}
+
 // False is refusal 20: the sizes, the first s groups, the first c constraints.
+#[tactic(auto, unfolding(model::specs::Model::in_range, model::specs::Model::table_of, model::specs::Model::constraints_of))]
 pub fn in_range(m: Model) -> bool
     ensures { result ≡ in_range m }
 {
     if !sizes_in_range(m.n, m.s, m.c) {
         return false;
     }
-    let groups = m.groups;
-    let constraints = m.constraints;
-    model::whole(groups, constraints);
-    let mut i: usize = 0;
-    while i < m.s as usize {
-        let g = m.groups[i];
-        if !group_in_range(g, m.n) {
-            return false;
-        }
-        i += 1;
+    if !groups_in_range(&m.groups, m.s as usize, m.n) {
+        return false;
     }
-    let mut j: usize = 0;
-    while j < m.c as usize {
-        let l = m.constraints[j];
-        if !constraint_in_range(l, m.s) {
-            return false;
-        }
-        j += 1;
-    }
-    true
+    constraints_in_range(&m.constraints, m.c as usize, m.s)
 }

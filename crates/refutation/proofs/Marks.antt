@@ -1,5 +1,8 @@
 -- Laws of marks: words that were passed, a word that is marked, cleared slices. Assumes nothing.
 use Rattle.std.proofs.Common.{◌≡◌, ℕ, zero, suc, ◌+◌, ◌-◌, ◌/◌, ◌%◌, ◌<◌, ◌≤◌, Bool, true, false, cond, not, T, eqb, ◌⊎◌, List, [], ◌∷◌, length, get_or, set, sym, refl, ap, ◌∙◌, subst, inl, inr, ⊎_elim, arith, length-set, get_or-set_other, get_or-set_same, eq-eqb, ne_eqb}
+use Rattle.std.specs.Prelude.{Option, None, Some}
+use Rattle.std.specs.Option.{is_some}
+use Rattle.std.proofs.lemmas.Option.{none-some}
 use native.Mathlib.Decide.{ℕ_discrete}
 use Rattle.model.specs.Close.{truth}
 use Rattle.model.proofs.Lists.{T_true}
@@ -19,49 +22,48 @@ by_refutation false f = f refl
 
 -- ---- words that were passed: each is marked, or the one that is kept
 
-abbrev pub Passed : List ℕ → List ℕ → ℕ → ℕ → Bool → ℕ → Type 0
-Passed store marks stamp unit kept k =
-    ((get_or store k 0 < length marks) × (get_or marks (get_or store k 0) 0 ≡ stamp)) ⊎ ((kept ≡ true) × (get_or store k 0 ≡ unit))
+abbrev pub Passed : List ℕ → List ℕ → ℕ → Option ℕ → ℕ → Type 0
+Passed store marks stamp unit k =
+    ((get_or store k 0 < length marks) × (get_or marks (get_or store k 0) 0 ≡ stamp)) ⊎ (unit ≡ Some (get_or store k 0))
 
-pub record AllPassed (store marks : List ℕ) (stamp unit : ℕ) (kept : Bool) (b i : ℕ) : Type 0 where
-  pub order : b ≤ i
-  pub each : (k : ℕ) → b ≤ k → k < i → Passed store marks stamp unit kept k
+pub record AllPassed (store marks : List ℕ) (stamp : ℕ) (unit : Option ℕ) (b i : ℕ) : Type 0 where
+  pub each : (k : ℕ) → b ≤ k → k < i → Passed store marks stamp unit k
 
-module _ {a : List Bool} {store : List ℕ} {b e : ℕ} {marks : List ℕ} {stamp unit : ℕ} {kept : Bool} {i : ℕ} (h : AllPassed store marks stamp unit kept b i) (end : e ≤ i) (t : T (some_true a store b (e - b))) (m : Falsified a marks stamp) where
+module _ {a : List Bool} {store : List ℕ} {b e : ℕ} {marks : List ℕ} {stamp : ℕ} {unit : Option ℕ} {i : ℕ} (h : AllPassed store marks stamp unit b i) (end : e ≤ i) (t : T (some_true a store b (e - b))) (m : Falsified a marks stamp) where
   -- the one kept is true
-  pub forced : T (word_true a unit)
-  forced =
+  pub forced : (w : ℕ) → unit ≡ Some w → T (word_true a w)
+  forced w u =
       let f = true-at a store b (e - b) t in
       ⊎_elim
-      (λ w. absurd (T_not _ f.true (m.off (get_or store f.at 0) w.0 w.1)))
-      (λ w. subst (λ (x : ℕ). T (word_true a x)) w.1 f.true)
+      (λ y. absurd (T_not _ f.true (m.off (get_or store f.at 0) y.0 y.1)))
+      (λ y. let same : get_or store f.at 0 ≡ w = cc in subst (λ (x : ℕ). T (word_true a x)) same f.true)
       (h.each f.at f.low (omega (arith, f.low, f.high)))
 
   -- where none is kept, there is no such assignment
-  pub conflict : kept ≡ false → ⊥
+  pub conflict : unit ≡ None → ⊥
   conflict n =
       let f = true-at a store b (e - b) t in
       ⊎_elim
-      (λ w. T_not _ f.true (m.off (get_or store f.at 0) w.0 w.1))
-      (λ w. true-false (sym w.0 ∙ n))
+      (λ y. T_not _ f.true (m.off (get_or store f.at 0) y.0 y.1))
+      (λ y. none-some _ (sym n ∙ y))
       (h.each f.at f.low (omega (arith, f.low, f.high)))
 
-module _ {store marks : List ℕ} {stamp unit : ℕ} {kept : Bool} {b i : ℕ} (h : AllPassed store marks stamp unit kept b i) where
+module _ {store marks : List ℕ} {stamp : ℕ} {unit : Option ℕ} {b i : ℕ} (h : AllPassed store marks stamp unit b i) where
   -- a word more: kept, where none was
-  pub pass_kept : kept ≡ false → (w : ℕ) (now : Bool) → w ≡ get_or store i 0 → now ≡ true → AllPassed store marks stamp w now b (i + 1)
-  pass_kept e w now p q = record { order = omega (arith, h.order); each = λ k l u. go k l u (ℕ_discrete k i) }
+  pub pass_kept : is_some unit ≡ false → (now : Option ℕ) → now ≡ Some (get_or store i 0) → AllPassed store marks stamp now b (i + 1)
+  pass_kept e now q = record { each = λ k l u. go k l u (ℕ_discrete k i) }
     where
-      go : (k : ℕ) → b ≤ k → k < i + 1 → Dec (k ≡ i) → Passed store marks stamp w now k
-      go k l u (yes x) = inr (q, ap (λ (n : ℕ). get_or store n 0) x ∙ sym p)
-      go k l u (no x) = ⊎_elim (λ y. inl y) (λ y. absurd (let z : true ≡ false = sym y.0 ∙ e in true-false z)) (h.each k l (omega arith))
+      go : (k : ℕ) → b ≤ k → k < i + 1 → Dec (k ≡ i) → Passed store marks stamp now k
+      go k l u (yes x) = inr (q ∙ ap (λ (n : ℕ). Some (get_or store n 0)) (sym x))
+      go k l u (no x) = ⊎_elim (λ y. inl y) (λ y. absurd (true-false (sym (ap is_some y) ∙ e))) (h.each k l (omega arith))
 
   -- or marked
-  pub pass-marked : (j : ℕ) → j ≡ get_or store i 0 → j < length marks → get_or marks j 0 ≡ stamp → (w : ℕ) (now : Bool) → w ≡ unit → now ≡ kept → AllPassed store marks stamp w now b (i + 1)
-  pass-marked j o r m w now p q = record { order = omega (arith, h.order); each = λ k l u. go k l u (ℕ_discrete k i) }
+  pub pass-marked : (j : ℕ) → j ≡ get_or store i 0 → j < length marks → get_or marks j 0 ≡ stamp → (now : Option ℕ) → now ≡ unit → AllPassed store marks stamp now b (i + 1)
+  pass-marked j o r m now q = record { each = λ k l u. go k l u (ℕ_discrete k i) }
     where
-      go : (k : ℕ) → b ≤ k → k < i + 1 → Dec (k ≡ i) → Passed store marks stamp w now k
+      go : (k : ℕ) → b ≤ k → k < i + 1 → Dec (k ≡ i) → Passed store marks stamp now k
       go k l u (yes x) = inl (subst (λ (n : ℕ). (get_or store n 0 < length marks) × (get_or marks (get_or store n 0) 0 ≡ stamp)) (sym x) (subst (λ (n : ℕ). (n < length marks) × (get_or marks n 0 ≡ stamp)) o (r, m)))
-      go k l u (no x) = ⊎_elim (λ y. inl y) (λ y. inr (q ∙ y.0, y.1 ∙ sym p)) (h.each k l (omega arith))
+      go k l u (no x) = ⊎_elim (λ y. inl y) (λ y. inr (q ∙ y)) (h.each k l (omega arith))
 
 -- ---- a word that is marked
 

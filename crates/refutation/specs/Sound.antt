@@ -1,5 +1,5 @@
 -- What a state of the checker keeps, for one assignment: every stored clause is true, and so is the clause begun once it is implied.
-use Rattle.std.specs.Prelude.{◌≡◌, ℕ, zero, suc, ◌+◌, ◌-◌, ◌/◌, ◌%◌, ◌<◌, ◌≤◌, Bool, true, false, cond, not, ◌||◌, T, List, length, ◌==◌, slice_index, slice_index_or}
+use Rattle.std.specs.Prelude.{None, ◌≡◌, ℕ, zero, suc, ◌+◌, ◌-◌, ◌/◌, ◌%◌, ◌<◌, ◌≤◌, Bool, true, false, cond, not, ◌||◌, T, List, length, ◌==◌, slice_index, slice_index_or}
 use Rattle.model.specs.Close.{truth}
 use Rattle.refutation.specs.declared.Found.{Found}
 use Rattle.refutation.specs.declared.Found.TheVariants.{Nothing, Conflict, Forces}
@@ -77,10 +77,10 @@ pub record Keeps (s : State) (store index marks : List ℕ) (s' : State) (store'
 
 -- a word more of the clause begun
 pub record Appended (s : State) (store : List ℕ) (s' : State) (store' : List ℕ) (w : ℕ) : Type 0 where
-  pub taken : s.refusal ≡ 0
+  pub taken : s.refusal ≡ None
   pub more : (a : List Bool) → s.top + 2 ≤ s.at → begun_true a s'.top s'.at store' ≡ (begun_true a s.top s.at store || word_true a w)
 
 -- another clause is begun, without a word
 pub record Begun (s s' : State) (store' : List ℕ) : Type 0 where
-  pub taken : s.refusal ≡ 0
+  pub taken : s.refusal ≡ None
   pub none : (a : List Bool) → begun_true a s'.top s'.at store' ≡ false

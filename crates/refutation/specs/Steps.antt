@@ -1,16 +1,35 @@
 -- What each step of the checker that has no loop answers, and what it leaves in the arrays lent to it. A refused step leaves them.
 use Rattle.std.specs.Prelude.{ℕ, ◌+◌, ◌-◌, ◌%◌, ◌^◌, true, false, cond, not, List, length, ◌==◌, nat_le, nat_lt, slice_index, slice_index_or, slice_set}
+use Rattle.std.specs.Prelude.{Option, None, Some}
 use Rattle.model.specs.Lists.{stop}
+use Rattle.refutation.specs.declared.Reason.{Reason}
+use Rattle.refutation.specs.declared.Reason.TheVariants.{StoreFull, NumberTooLarge, NoSuchVariable, NoSuchClause, HintNotUnit, NotImplied, TooManyLines, Format, ValueTooLarge, NegativeHint, NoRoomForABlock, EndsEarly}
 use Rattle.refutation.specs.declared.State.{State}
+
+-- ---- a reason's number
+
+abbrev pub reason_number : Reason → ℕ
+reason_number StoreFull = 1
+reason_number NumberTooLarge = 2
+reason_number NoSuchVariable = 3
+reason_number NoSuchClause = 4
+reason_number HintNotUnit = 5
+reason_number NotImplied = 6
+reason_number TooManyLines = 7
+reason_number Format = 8
+reason_number ValueTooLarge = 9
+reason_number NegativeHint = 10
+reason_number NoRoomForABlock = 11
+reason_number EndsEarly = 12
 
 -- ---- the first state, and a refused one
 
 unfoldable pub first_state : State
-first_state = record { refusal = 0; refuted = false; proved = false; id = 0; top = 1; at = 3; stamp = 1; dead = 0 }
+first_state = record { refusal = None; refuted = false; proved = false; id = 0; top = 1; at = 3; stamp = 1; dead = 0 }
 
-unfoldable pub refused_for : State → ℕ → State
+unfoldable pub refused_for : State → Reason → State
 refused_for s why = record {
-  refusal = why;
+  refusal = Some why;
   refuted = s.refuted;
   proved = s.proved;
   id = s.id;
@@ -20,10 +39,10 @@ refused_for s why = record {
   dead = s.dead;
 }
 
--- ---- a word more of the clause begun: 1 where the store is full, 3 where there is no such variable
+-- ---- a word more of the clause begun
 
-unfoldable pub put_refusal : State → List ℕ → List ℕ → ℕ → ℕ
-put_refusal s store marks w = stop (nat_le (length store) s.at) 1 (stop (nat_le (length marks) w) 3 0)
+unfoldable pub put_refusal : State → List ℕ → List ℕ → ℕ → Option Reason
+put_refusal s store marks w = cond (nat_le (length store) s.at) (Some StoreFull) (cond (nat_le (length marks) w) (Some NoSuchVariable) None)
 
 unfoldable pub longer : State → State
 longer s = record {
@@ -37,30 +56,31 @@ longer s = record {
   dead = s.dead;
 }
 
--- what a step that is refused by a number leaves, and what another makes
-abbrev pub unless : {A : Type 0} → ℕ → A → A → A
-unless refusal refused made = cond (refusal == 0) made refused
+-- what a step that is refused leaves, and what another makes
+abbrev pub unless : {A : Type 0} → Option Reason → (Reason → A) → A → A
+unless None refused made = made
+unless (Some why) refused made = refused why
 
 unfoldable pub after_put : State → List ℕ → List ℕ → ℕ → State
-after_put s store marks w = let x = put_refusal s store marks w in unless x (refused_for s x) (longer s)
+after_put s store marks w = unless (put_refusal s store marks w) (refused_for s) (longer s)
 
 unfoldable pub store_after_put : State → List ℕ → List ℕ → ℕ → List ℕ
-store_after_put s store marks w = unless (put_refusal s store marks w) store (slice_set store s.at w)
+store_after_put s store marks w = unless (put_refusal s store marks w) (λ why. store) (slice_set store s.at w)
 
 unfoldable pub marks_after_put : State → List ℕ → List ℕ → ℕ → List ℕ
-marks_after_put s store marks w = unless (put_refusal s store marks w) marks (slice_set marks w s.stamp)
+marks_after_put s store marks w = unless (put_refusal s store marks w) (λ why. marks) (slice_set marks w s.stamp)
 
--- ---- the clause begun is stored: 6 where it is not implied, 2 where its number is too large, 1 where it does not fit, 7 after too many lines
+-- ---- the clause begun is stored
 
-unfoldable pub commit_refusal : State → List ℕ → List ℕ → ℕ
+unfoldable pub commit_refusal : State → List ℕ → List ℕ → Option Reason
 commit_refusal s store index =
-    stop (not s.proved) 6
-    (stop (nat_le (length index) s.id) 2
-    (stop (nat_lt (length store) s.at) 1
-    (stop (nat_le 4294967290 s.at) 1
-    (stop (nat_lt s.at 2) 1
-    (stop (nat_lt (s.at - 2) s.top) 1
-    (stop (nat_le 4294967295 s.stamp) 7 0))))))
+    cond (not s.proved) (Some NotImplied)
+    (cond (nat_le (length index) s.id) (Some NumberTooLarge)
+    (cond (nat_lt (length store) s.at) (Some StoreFull)
+    (cond (nat_le 4294967290 s.at) (Some StoreFull)
+    (cond (nat_lt s.at 2) (Some StoreFull)
+    (cond (nat_lt (s.at - 2) s.top) (Some StoreFull)
+    (cond (nat_le 4294967295 s.stamp) (Some TooManyLines) None))))))
 
 -- how many words it has
 unfoldable pub begun_size : State → ℕ
@@ -79,13 +99,13 @@ committed s = record {
 }
 
 unfoldable pub after_commit : State → List ℕ → List ℕ → State
-after_commit s store index = let x = commit_refusal s store index in unless x (refused_for s x) (committed s)
+after_commit s store index = unless (commit_refusal s store index) (refused_for s) (committed s)
 
 unfoldable pub store_after_commit : State → List ℕ → List ℕ → List ℕ
-store_after_commit s store index = unless (commit_refusal s store index) store (slice_set (slice_set store s.top s.id) (s.top + 1) (begun_size s))
+store_after_commit s store index = unless (commit_refusal s store index) (λ why. store) (slice_set (slice_set store s.top s.id) (s.top + 1) (begun_size s))
 
 unfoldable pub index_after_commit : State → List ℕ → List ℕ → List ℕ
-index_after_commit s store index = unless (commit_refusal s store index) index (slice_set index s.id s.top)
+index_after_commit s store index = unless (commit_refusal s store index) (λ why. index) (slice_set index s.id s.top)
 
 -- a clause of the formula needs no hint
 unfoldable pub given : State → ℕ → State
@@ -100,7 +120,7 @@ given s id = record {
   dead = s.dead;
 }
 
--- ---- a clause is forgotten: 4 where there is none of its number
+-- ---- a clause is forgotten
 
 -- the places of the clause at c, none where no clause can stand there
 unfoldable pub places_at : List ℕ → ℕ → ℕ
@@ -124,7 +144,7 @@ forgetting s store index id = record {
 }
 
 unfoldable pub after_forget : State → List ℕ → List ℕ → ℕ → State
-after_forget s store index id = cond (nat_le (length index) id) (refused_for s 4) (forgetting s store index id)
+after_forget s store index id = cond (nat_le (length index) id) (refused_for s NoSuchClause) (forgetting s store index id)
 
 -- a number past the index leaves it
 unfoldable pub index_after_forget : List ℕ → ℕ → List ℕ

@@ -4,20 +4,22 @@ use mathlib.Core.Path.{◌≡◌, refl, sym, ap, ap₂, ◌∙◌}
 use mathlib.Core.Bool.{Bool, true, false, cond}
 use mathlib.Core.List.{List, [], ◌∷◌, ◌++◌, append_assoc, append-nil}
 use native.Mathlib.Omega.{arith}
-use borrow.Author.Tests.{le-leb, leb-true, ne_eqb}
+use borrow.Author.Tests.{le-leb, leb-true}
 use lib.Dec.{T, leb, eqb}
 use lib.ListN.{length, drop, length-append, length-drop}
 use lib.Seq.{take-append_seam, drop-append-add, drop-drop}
 use Prim.Native.String.{String}
-use Rattle.model.specs.Lists.{every}
+use Rattle.std.specs.List.{list_all}
 use Rattle.model.specs.Text.{decimal}
-use Rattle.model.proofs.Lists.{T_true, and_left, and_right, All}
+use Rattle.model.proofs.Lists.{T_true, and_left, and_right}
 use Rattle.encoding_laws.proofs.Decimal.{decimal-bound}
 use Rattle.text.specs.Put.{placed, place_after}
 use Rattle.text.proofs.Writes.{nothing}
 use Rattle.report.specs.declared.Message.{Message}
 use Rattle.report.specs.declared.Tried.{Tried}
-use Rattle.report.specs.Messages.{bytes, zeros, message, Counted, added, meanings, text_at, meaning_text, reasons, reason_text, fault_starts, fault_start, fault_ends, fault_end, closed_text, unsaid_text, tried_text, added_unsaid, added_result, added_tried}
+use Rattle.report.specs.declared.Notice.{Notice}
+use Rattle.report.specs.declared.Notice.TheVariants.{OutputNotWritten, ListingNotWritten, SheetNotWritten, GroupsTooLong, Sheet, FirstSheet, SecondSheet, AnswerUsage}
+use Rattle.report.specs.Messages.{notice_text, bytes, zeros, message, Counted, added, meanings, text_at, meaning_text, reasons, reason_text, fault_starts, fault_start, fault_ends, fault_end, closed_text, tried_text, added_result, added_tried}
 
 -- a text of no more bytes than a message has
 message-length : (t : List ℕ) → length t ≤ 160 → length (t ++ drop (length t) zeros) ≡ 160
@@ -35,13 +37,8 @@ pub none : (m : Message) → m ≡ added m []
 unfolding added
 none m = let e = nothing [] m.bytes m.length refl in ap₂ (λ (k : ℕ) (l : List ℕ). record { length = k; bytes = l }) e.0 e.1
 
--- a number that does not stand in a table
-pub absent : (es : List (ℕ × String)) (k : ℕ) → All (λ e. k ≡ e.0 → ⊥) es → [] ≡ text_at es k
-absent [] k h = refl
-absent (e ∷ es) k h = rw (ne_eqb k e.0 h.0) (absent es k h.1)
-
 -- the texts of a table have up to `most` bytes
-pub table-length : (most : ℕ) (es : List (ℕ × String)) (k : ℕ) → T (every (λ e. leb (length (bytes e.1)) most) es) → length (text_at es k) ≤ most
+pub table-length : (most : ℕ) (es : List (ℕ × String)) (k : ℕ) → T (list_all (λ e. leb (length (bytes e.1)) most) es) → length (text_at es k) ≤ most
 table-length most [] k h = omega arith
 table-length most (e ∷ es) k h = go (eqb k e.0) (table-length most es k (and_right (leb (length (bytes e.1)) most) _ h))
   where
@@ -86,39 +83,52 @@ add-text u = more u (length u) (omega arith)
 pub add-decimal : (v : ℕ) → v < 2 ^ 32 → {m r : Message} {t : List ℕ} {k : ℕ} → r ≡ added m (decimal v) → Says m t k → Says r (t ++ decimal v) (k + 10)
 add-decimal v h = more (decimal v) 10 (decimal-bound 9 v (omega arith))
 
-pub add-meaning : (x : ℕ) {m r : Message} {t : List ℕ} {k : ℕ} → r ≡ added m (meaning_text x) → Says m t k → Says r (t ++ meaning_text x) (k + 116)
-add-meaning x = more (meaning_text x) 116 (meaning-length x)
+-- a text that another function picks
+pub picked : (u : List ℕ) (j : ℕ) → length u ≤ j → {m r : Message} {v t : List ℕ} {k : ℕ} → r ≡ added m v → v ≡ u → Says m t k → Says r (t ++ u) (k + j)
+picked u j h {m} e p = more u j h (e ∙ ap (added m) p)
 
-pub add_reason_lem : (x : ℕ) {m r : Message} {t : List ℕ} {k : ℕ} → r ≡ added m (reason_text x) → Says m t k → Says r (t ++ reason_text x) (k + 60)
-add_reason_lem x = more (reason_text x) 60 (reason_length x)
+pub add-meaning : (x : ℕ) {m r : Message} {v t : List ℕ} {k : ℕ} → r ≡ added m v → v ≡ meaning_text x → Says m t k → Says r (t ++ meaning_text x) (k + 116)
+add-meaning x = picked (meaning_text x) 116 (meaning-length x)
 
-pub add_fault_start_lem : (x : ℕ) {m r : Message} {t : List ℕ} {k : ℕ} → r ≡ added m (fault_start x) → Says m t k → Says r (t ++ fault_start x) (k + 23)
-add_fault_start_lem x = more (fault_start x) 23 (start-length x)
+pub add-reason : (x : ℕ) {m r : Message} {v t : List ℕ} {k : ℕ} → r ≡ added m v → v ≡ reason_text x → Says m t k → Says r (t ++ reason_text x) (k + 60)
+add-reason x = picked (reason_text x) 60 (reason_length x)
 
-pub add_fault_end_lem : (x : ℕ) {m r : Message} {t : List ℕ} {k : ℕ} → r ≡ added m (fault_end x) → Says m t k → Says r (t ++ fault_end x) (k + 27)
-add_fault_end_lem x = more (fault_end x) 27 (end-length x)
+pub add-start : (x : ℕ) {m r : Message} {v t : List ℕ} {k : ℕ} → r ≡ added m v → v ≡ fault_start x → Says m t k → Says r (t ++ fault_start x) (k + 23)
+add-start x = picked (fault_start x) 23 (start-length x)
 
-pub said : {m : Message} {t : List ℕ} {k : ℕ} → k ≤ 160 → Says m t k → (m ≡ message t) × Counted m
+pub add-end : (x : ℕ) {m r : Message} {v t : List ℕ} {k : ℕ} → r ≡ added m v → v ≡ fault_end x → Says m t k → Says r (t ++ fault_end x) (k + 27)
+add-end x = picked (fault_end x) 27 (end-length x)
+
+pub add-closed : (closed : Bool) {m r : Message} {v t : List ℕ} {k : ℕ} → r ≡ added m v → v ≡ closed_text closed → Says m t k → Says r (t ++ closed_text closed) (k + 11)
+add-closed closed = picked (closed_text closed) 11 (short closed)
+  where
+    short : (b : Bool) → length (closed_text b) ≤ 11
+    short true = unfold closed_text in omega arith
+    short false = unfold closed_text in omega arith
+
+pub add-notice : (x : Notice) {m r : Message} {v t : List ℕ} {k : ℕ} → r ≡ added m v → v ≡ notice_text x → Says m t k → Says r (t ++ notice_text x) (k + 39)
+add-notice x = picked (notice_text x) 39 (short x)
+  where
+    short : (n : Notice) → length (notice_text n) ≤ 39
+    short OutputNotWritten = unfold notice_text in omega arith
+    short ListingNotWritten = unfold notice_text in omega arith
+    short SheetNotWritten = unfold notice_text in omega arith
+    short GroupsTooLong = unfold notice_text in omega arith
+    short Sheet = unfold notice_text in omega arith
+    short FirstSheet = unfold notice_text in omega arith
+    short SecondSheet = unfold notice_text in omega arith
+    short AnswerUsage = unfold notice_text in omega arith
+
+pub said : {m : Message} {t : List ℕ} {k : ℕ} → k ≤ 160 → Says m t k → record { value : m ≡ message t; counted : Counted m }
 unfolding message
 said {m} {t} {k} h s =
     let here = take-append_seam t (drop (length t) zeros) in
-    (s.text h, rw (s.text h) (rw (message-length t (omega (arith, s.short))) (omega (arith, s.short)), rw here))
+    record { value = s.text h; counted = rw (s.text h) (rw (message-length t (omega (arith, s.short))) (omega (arith, s.short)), rw here) }
 
 -- ---- texts that a test picks
 
-same : {m : Message} {t u : List ℕ} {j k : ℕ} → t ≡ u → j ≤ k → Says m t j → Says m u k
+pub same : {m : Message} {t u : List ℕ} {j k : ℕ} → t ≡ u → j ≤ k → Says m t j → Says m u k
 same e h s = record { text = λ room. s.text (omega arith) ∙ ap message e; short = rw (sym e) (omega (arith, s.short)) }
-
-pub add-unsaid : (v : ℕ) → v < 2 ^ 32 → {m r : Message} {t : List ℕ} {k : ℕ} → r ≡ added_unsaid m v → Says m t k → Says r (t ++ unsaid_text v) (k + 18)
-unfolding added_unsaid unsaid_text
-add-unsaid v h {m} {r} {t} {k} e s = go (eqb v 0) e
-  where
-    go : (b : Bool) → r ≡ cond b m (added (added (added m (bytes "unsaid ")) (decimal v)) (bytes "\n"))
-        → Says r (t ++ cond b [] (bytes "unsaid " ++ decimal v ++ bytes "\n")) (k + 18)
-    go true e = rw e (same (sym (append-nil t)) (omega arith) s)
-    go false e =
-        same (append_assoc (t ++ bytes "unsaid ") (decimal v) (bytes "\n") ∙ append_assoc t (bytes "unsaid ") _) (omega arith)
-        (add-text (bytes "\n") e (add-decimal v h refl (add-text (bytes "unsaid ") refl s)))
 
 module _ (x : Tried) (hr : x.room < 2 ^ 32) (hf : x.refusal < 2 ^ 32) (hl : x.length < 2 ^ 32) where
   add-result : {m r : Message} {t : List ℕ} {k : ℕ} → r ≡ added_result m x → Says m t k
@@ -141,10 +151,3 @@ module _ (x : Tried) (hr : x.room < 2 ^ 32) (hf : x.refusal < 2 ^ 32) (hl : x.le
 
 pub add_none : {m : Message} {t : List ℕ} {k : ℕ} → Says m t k → Says m (t ++ []) k
 add_none {t = t} s = same (sym (append-nil t)) (omega arith) s
-
-pub add-closed : (closed : Bool) {m r : Message} {t : List ℕ} {k : ℕ} → r ≡ added m (closed_text closed) → Says m t k → Says r (t ++ closed_text closed) (k + 11)
-add-closed closed = more (closed_text closed) 11 (short closed)
-  where
-    short : (b : Bool) → length (closed_text b) ≤ 11
-    short true = unfold closed_text in omega arith
-    short false = unfold closed_text in omega arith

@@ -1,5 +1,5 @@
 -- What the programs say: every message, as the bytes that they print.
-use Rattle.std.specs.Prelude.{ℕ, ◌-◌, ◌≤◌, ◌≡◌, Bool, cond, List, [], ◌∷◌, ◌++◌, eqb, length, take, drop, replicate}
+use Rattle.std.specs.Prelude.{ℕ, ◌≤◌, ◌≡◌, Bool, cond, List, [], ◌∷◌, ◌++◌, eqb, length, take, drop, replicate}
 use Prim.Native.Char.{code}
 use Prim.Native.String.{String, [] as no_text, ◌∷◌ as ◌before◌}
 use Rattle.model.specs.Text.{decimal}
@@ -45,17 +45,6 @@ meanings =
     ∷ (32, "one sheet bars an entrant whom the other fixes, or the low of one exceeds the high of the other\n")
     ∷ (33, "the sheets have more than 256 constraint lines in all\n")
     ∷ []
-
--- the texts of a table, one after the other
-abbrev pub together : List (ℕ × String) → List ℕ
-together [] = []
-together (e ∷ es) = bytes e.1 ++ together es
-
--- the text is that part of the whole
-pub record IsPart (whole text : List ℕ) (start end : ℕ) : Type 0 where
-  pub order : start ≤ end
-  pub inside : end ≤ length whole
-  pub same : take (end - start) (drop start whole) ≡ text
 
 -- the text that stands at a number; nothing where none does
 abbrev pub text_at : List (ℕ × String) → ℕ → List ℕ
@@ -208,9 +197,6 @@ unfoldable pub added : Message → List ℕ → Message
 added m text = record { length = place_after text m.length (length m.bytes); bytes = placed text m.length m.bytes }
 
 -- the same of the texts that a test picks
-unfoldable pub added_unsaid : Message → ℕ → Message
-added_unsaid m k = cond (eqb k 0) m (added (added (added m (bytes "unsaid ")) (decimal k)) (bytes "\n"))
-
 unfoldable pub added_result : Message → Tried → Message
 added_result m t = cond (eqb t.refusal 0) (added m (decimal t.length)) (added (added m (bytes "refused ")) (decimal t.refusal))
 

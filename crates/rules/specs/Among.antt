@@ -1,14 +1,11 @@
--- The constraint rule for a word of entrants, and what it asks of code 7, over the table as arrays.
-use Rattle.std.specs.Prelude.{ℕ, ◌≡◌, Bool, cond, List, ◌++◌, map, length, get_or}
+-- The constraint rule for a word of entrants.
+use Rattle.std.specs.Prelude.{ℕ, cond, List, ◌++◌, map}
 use Rattle.model.specs.declared.Group.{Group}
 use Rattle.model.specs.declared.Constraint.{Constraint}
-use Rattle.model.specs.Limits.{limits}
 use Rattle.model.specs.Clauses.{is_difference, clauses_of}
-use Rattle.model.specs.Model.{group_at}
 use Rattle.model.specs.LimitRules.{limit_rules}
-use Rattle.model.specs.Difference.{unlike, unlike_in, lone, may_differ}
+use Rattle.model.specs.Difference.{unlike_in, lone}
 use Rattle.model.specs.Propagate.{clause_rule, run}
-use Rattle.table.specs.Table.{zipped}
 
 -- where the word is that of entrants 1..n, this is `scope n` and `constraint_rule n`
 unfoldable pub scope_among : ℕ → List Group → Constraint → ℕ
@@ -16,17 +13,3 @@ scope_among all t c = cond (is_difference c) (lone (unlike_in t c)) all
 
 unfoldable pub rule_among : ℕ → Constraint → List Group → List Group
 rule_among all c t = run (map (clause_rule (scope_among all t c)) (clauses_of c) ++ limit_rules c) t
-
--- of a table with these sets, whatever its limits are
-abbrev pub Of : List ℕ → List ℕ → (List Group → Type 0) → Type 0
-Of f p P = (l h : List ℕ) → length l ≡ limits.groups → length h ≡ limits.groups → P (zipped f p l h)
-
--- the word is the entrants who are not settled alike in groups F and G
-abbrev pub Unlike : ℕ → List ℕ → List ℕ → List ℕ → Type 0
-Unlike r f p ids = Of f p (λ t. r ≡ unlike (group_at t (get_or ids 0 0)) (group_at t (get_or ids 1 0)))
-
-abbrev pub Scope : ℕ → List ℕ → List ℕ → ℕ → Constraint → Type 0
-Scope r f p all c = Of f p (λ t. r ≡ scope_among all t c)
-
-abbrev pub MayDiffer : Bool → List ℕ → List ℕ → Constraint → Type 0
-MayDiffer r f p c = Of f p (λ t. r ≡ may_differ t c)

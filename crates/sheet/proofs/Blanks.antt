@@ -11,7 +11,8 @@ use lib.Dec.{T, leb, eqb}
 use lib.ListN.{length, get_or}
 use Rattle.model.specs.declared.Model.{Model}
 use Rattle.model.specs.declared.SheetRead.{SheetRead}
-use Rattle.model.specs.Lists.{every, pairwise, range, total}
+use Rattle.std.specs.List.{list_all}
+use Rattle.model.specs.Lists.{pairwise, range, total}
 use Rattle.model.specs.Model.{zero_model}
 use Rattle.model.specs.Sheet.{on_first, lines_of, field_at, number_of, field_value, field_refusal, field_number, value_at, is_mark_column, good_field, form_refusal, head_refusal, with_head, mark_at, group_refusal, group_from, with_group, constraint_refusal, with_constraint, line_refusal, with_line, read_lines, read_sheet}
 use Rattle.model.proofs.Lists.{T_true, and_left, and_right, every-range, every-range_ext}
@@ -76,7 +77,7 @@ marks-from_fifth l e i = rw e (go (leb 4 i))
     go false = refl
 
 module _ (k l : List ℕ) (long : length k ≡ length l) (first : value_at k 0 ≡ 2) (first' : value_at l 0 ≡ 2)
-    (fields : T (every (same_field k l) (range 0 (length k / 4)))) where
+    (fields : T (list_all (same_field k l) (range 0 (length k / 4)))) where
   said_at : (i : ℕ) → Said (field_at k i) (field_at l i) (leb 4 i)
   said_at i = go (dec_lt i (length k / 4))
     where
@@ -114,7 +115,7 @@ same-or-alike k l =
     let a : Bool = eqb (length k) (length l) in
     let b : Bool = eqb (value_at k 0) 2 in
     let c : Bool = eqb (value_at l 0) 2 in
-    let d : Bool = every (same_field k l) (range 0 (length k / 4)) in
+    let d : Bool = list_all (same_field k l) (range 0 (length k / 4)) in
     or_case (same_bytes k l) (a && b && c && d) (λ t. inl (same_bytes_lem k l t))
     (λ t.
     let abc = and_left (a && b && c) d t in

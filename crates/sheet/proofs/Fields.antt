@@ -3,14 +3,15 @@ use Prim.Native.Nat.{ℕ, ◌+◌, ◌-◌, ◌*◌, ◌/◌, ◌%◌, ◌≤◌
 use mathlib.Core.Path.{◌≡◌, refl, sym, ap, subst, ◌∙◌}
 use mathlib.Core.Bool.{Bool, true, false, cond, not, ◌&&◌, ◌||◌}
 use mathlib.Core.List.{List, [], ◌∷◌, ◌++◌}
-use mathlib.Core.Option.{Option, none, some}
+use Rattle.std.specs.Prelude.{Option, None, Some}
 use native.Mathlib.Omega.{arith}
 use borrow.Author.Tests.{eqb-true, eqb-false, ltb-true, ltb-false, le-leb, lt-leb, lt-ltb}
 use lib.Dec.{leb, ltb, eqb}
 use lib.ListN.{length, get_or}
 use Rattle.model.specs.declared.Field.{Field}
 use Rattle.model.specs.declared.Field.TheVariants.{Number, Blank, Bad}
-use Rattle.model.specs.Lists.{every, range, between, stop}
+use Rattle.std.specs.List.{list_all}
+use Rattle.model.specs.Lists.{range, between, stop}
 use Rattle.model.specs.Sheet.{field_at, after_spaces, digits_after, number_of, as_field, field_value, field_refusal, field_number, value_at, is_mark_column, good_field, form_refusal, mark_at, first_group, group_count}
 use Rattle.model.proofs.Lists.{every-range, true-T, T_true, between_le}
 use Rattle.model.proofs.Loops.{drop-next}
@@ -21,14 +22,14 @@ use Rattle.sheet.specs.Line.{good_mark, plain_value, GroupLine, ConstraintLine}
 digit-plain : (d : ℕ) → between 48 57 d ≡ true → d % 16 ≡ d - 48
 digit-plain d h = let b = between_le 48 57 d (true-T _ h) in omega (arith, b.0, b.1)
 
-digits-plain : (v w : ℕ) (ds : List ℕ) → digits_after v ds ≡ some w → plain_value v ds ≡ w
+digits-plain : (v w : ℕ) (ds : List ℕ) → digits_after v ds ≡ Some w → plain_value v ds ≡ w
 digits-plain v w [] e = cc
 digits-plain v w (d ∷ ds) e = go (between 48 57 d) refl (digits-plain (v * 10 + (d - 48)) w ds)
   where
-    go : (b : Bool) → between 48 57 d ≡ b → (digits_after (v * 10 + (d - 48)) ds ≡ some w → plain_value (v * 10 + (d - 48)) ds ≡ w)
+    go : (b : Bool) → between 48 57 d ≡ b → (digits_after (v * 10 + (d - 48)) ds ≡ Some w → plain_value (v * 10 + (d - 48)) ds ≡ w)
         → plain_value (v * 10 + d % 16) ds ≡ w
     go true h ih = rw (digit-plain d h) (ih (rw h at e))
-    go false h ih = let f : none ≡ some w = rw h at e in let z : ◌≡◌ {A = ℕ} 0 1 = cc in absurd (omega arith)
+    go false h ih = let f : None ≡ Some w = rw h at e in let z : ◌≡◌ {A = ℕ} 0 1 = cc in absurd (omega arith)
 
 spaces-plain : (f : List ℕ) → plain_value 0 f ≡ plain_value 0 (after_spaces f)
 spaces-plain [] = refl
@@ -43,19 +44,19 @@ spaces-plain (b ∷ bs) = go (eqb b 32) refl (spaces-plain bs)
 
 module _ (f : List ℕ) where
   -- what it has after its spaces
-  number_digits : (w : ℕ) → field_value f ≡ Number w → (length (after_spaces f) ≡ 0 → ⊥) × (digits_after 0 (after_spaces f) ≡ some w)
+  number_digits : (w : ℕ) → field_value f ≡ Number w → (length (after_spaces f) ≡ 0 → ⊥) × (digits_after 0 (after_spaces f) ≡ Some w)
   unfolding field_value number_of
   number_digits w e =
       let d = after_spaces f in
       go (eqb (length f) 4) (eqb (length d) 0) refl (ltb 1 (length d) && eqb (get_or d 0 0) 48) (digits_after 0 d) e
     where
       go : (a b : Bool) → eqb (length (after_spaces f)) 0 ≡ b → (q : Bool) (o : Option ℕ)
-          → cond (not a) Bad (cond b Blank (as_field (cond b none (cond q none o)))) ≡ Number w → (length (after_spaces f) ≡ 0 → ⊥) × (o ≡ some w)
+          → cond (not a) Bad (cond b Blank (as_field (cond b None (cond q None o)))) ≡ Number w → (length (after_spaces f) ≡ 0 → ⊥) × (o ≡ Some w)
       go false b h q o e = let z : ◌≡◌ {A = ℕ} 0 1 = cc in absurd (omega arith)
       go true true h q o e = let z : ◌≡◌ {A = ℕ} 0 1 = cc in absurd (omega arith)
       go true false h true o e = let z : ◌≡◌ {A = ℕ} 0 1 = cc in absurd (omega arith)
-      go true false h false none e = let z : ◌≡◌ {A = ℕ} 0 1 = cc in absurd (omega arith)
-      go true false h false (some v) e = (eqb-false (length (after_spaces f)) 0 h, cc)
+      go true false h false None e = let z : ◌≡◌ {A = ℕ} 0 1 = cc in absurd (omega arith)
+      go true false h false (Some v) e = (eqb-false (length (after_spaces f)) 0 h, cc)
 
   number-plain : (w : ℕ) → field_value f ≡ Number w → plain_value 0 f ≡ w
   number-plain w e = spaces-plain f ∙ digits-plain 0 w (after_spaces f) (number_digits w e).1
@@ -67,8 +68,8 @@ module _ (f : List ℕ) where
       go : (a b : Bool) → eqb (length (after_spaces f)) 0 ≡ b → (o : Option ℕ) → cond (not a) Bad (cond b Blank (as_field o)) ≡ Blank → length (after_spaces f) ≡ 0
       go false b h o e = let z : ◌≡◌ {A = ℕ} 0 1 = cc in absurd (omega arith)
       go true true h o e = eqb-true (length (after_spaces f)) 0 h
-      go true false h none e = let z : ◌≡◌ {A = ℕ} 0 1 = cc in absurd (omega arith)
-      go true false h (some v) e = let z : ◌≡◌ {A = ℕ} 0 1 = cc in absurd (omega arith)
+      go true false h None e = let z : ◌≡◌ {A = ℕ} 0 1 = cc in absurd (omega arith)
+      go true false h (Some v) e = let z : ◌≡◌ {A = ℕ} 0 1 = cc in absurd (omega arith)
 
   blank-plain : field_value f ≡ Blank → plain_value 0 f ≡ 0
   blank-plain e = spaces-plain f ∙ empty (after_spaces f) (blank-spaces e)
@@ -95,24 +96,24 @@ mark-plain f = go (field_value f) refl
 
 -- ---- the last byte of a field
 
-space-none : (v : ℕ) (xs : List ℕ) → digits_after v (xs ++ 32 ∷ []) ≡ none
+space-none : (v : ℕ) (xs : List ℕ) → digits_after v (xs ++ 32 ∷ []) ≡ None
 space-none v [] = refl
 space-none v (x ∷ xs) = go (between 48 57 x) (space-none (v * 10 + (x - 48)) xs)
   where
-    go : (b : Bool) → digits_after (v * 10 + (x - 48)) (xs ++ 32 ∷ []) ≡ none → cond b (digits_after (v * 10 + (x - 48)) (xs ++ 32 ∷ [])) none ≡ none
+    go : (b : Bool) → digits_after (v * 10 + (x - 48)) (xs ++ 32 ∷ []) ≡ None → cond b (digits_after (v * 10 + (x - 48)) (xs ++ 32 ∷ [])) None ≡ None
     go true ih = ih
     go false ih = refl
 
 -- a number's is no space
-spaced-none : (xs : List ℕ) → (length (after_spaces (xs ++ 32 ∷ [])) ≡ 0 → ⊥) → digits_after 0 (after_spaces (xs ++ 32 ∷ [])) ≡ none
+spaced-none : (xs : List ℕ) → (length (after_spaces (xs ++ 32 ∷ [])) ≡ 0 → ⊥) → digits_after 0 (after_spaces (xs ++ 32 ∷ [])) ≡ None
 spaced-none [] h = absurd (h refl)
 spaced-none (x ∷ xs) h = go (eqb x 32) (spaced-none xs) h
   where
     rest : List ℕ
     rest = xs ++ 32 ∷ []
 
-    go : (b : Bool) → ((length (after_spaces rest) ≡ 0 → ⊥) → digits_after 0 (after_spaces rest) ≡ none)
-        → (length (cond b (after_spaces rest) (x ∷ rest)) ≡ 0 → ⊥) → digits_after 0 (cond b (after_spaces rest) (x ∷ rest)) ≡ none
+    go : (b : Bool) → ((length (after_spaces rest) ≡ 0 → ⊥) → digits_after 0 (after_spaces rest) ≡ None)
+        → (length (cond b (after_spaces rest) (x ∷ rest)) ≡ 0 → ⊥) → digits_after 0 (cond b (after_spaces rest) (x ∷ rest)) ≡ None
     go true ih h = ih h
     go false ih h = space-none 0 (x ∷ xs)
 
@@ -138,7 +139,7 @@ module _ (a b c d : ℕ) where
   number-ends w e h =
       let n = number_digits bytes w e in
       let q : bytes ≡ (a ∷ b ∷ c ∷ []) ++ 32 ∷ [] = ap {B = List ℕ} (λ x. a ∷ b ∷ c ∷ x ∷ []) h in
-      let f : none ≡ some w = sym (spaced-none (a ∷ b ∷ c ∷ []) (subst (λ (l : List ℕ). length (after_spaces l) ≡ 0 → ⊥) q n.0)) ∙ ap (λ (l : List ℕ). digits_after 0 (after_spaces l)) (sym q) ∙ n.1 in
+      let f : None ≡ Some w = sym (spaced-none (a ∷ b ∷ c ∷ []) (subst (λ (l : List ℕ). length (after_spaces l) ≡ 0 → ⊥) q n.0)) ∙ ap (λ (l : List ℕ). digits_after 0 (after_spaces l)) (sym q) ∙ n.1 in
       let z : ◌≡◌ {A = ℕ} 0 1 = cc in omega arith
 
   mark-last : field_refusal (field_value bytes) true ≡ 0 → field_number (field_value bytes) true ≤ 2
@@ -165,9 +166,9 @@ module _ (l : List ℕ) (i : ℕ) (h : i < length l / 4) where
   module _ (form : form_refusal l ≡ 0) where
     good : good_field l i ≡ true
     unfolding form_refusal
-    good = go (eqb (length l) 0) (eqb (length l % 4) 0) (every (good_field l) (range 0 (length l / 4))) refl form
+    good = go (eqb (length l) 0) (eqb (length l % 4) 0) (list_all (good_field l) (range 0 (length l / 4))) refl form
       where
-        go : (a b c : Bool) → every (good_field l) (range 0 (length l / 4)) ≡ c → stop a 3 (stop (not b) 3 (stop (not c) 4 0)) ≡ 0 → good_field l i ≡ true
+        go : (a b c : Bool) → list_all (good_field l) (range 0 (length l / 4)) ≡ c → stop a 3 (stop (not b) 3 (stop (not c) 4 0)) ≡ 0 → good_field l i ≡ true
         go true b c e z = absurd (omega arith)
         go false false c e z = absurd (omega arith)
         go false true false e z = absurd (omega arith)

@@ -14,7 +14,8 @@ use lib.Seq.{get_or-drop, drop-drop}
 use Rattle.model.specs.declared.Group.{Group}
 use Rattle.model.specs.declared.Constraint.{Constraint}
 use Rattle.model.specs.declared.Model.{Model}
-use Rattle.model.specs.Lists.{every, range, stop, between}
+use Rattle.std.specs.List.{list_all}
+use Rattle.model.specs.Lists.{range, stop, between}
 use Rattle.model.specs.Limits.{limits, groups_for}
 use Rattle.model.specs.Model.{zero_model, code_in_range}
 use Rattle.model.specs.Sheet.{on_first, lines_of, value_at, form_refusal, head_refusal, with_head, group_refusal, group_from, with_group, first_group, count_from, group_count, constraint_from, constraint_refusal, with_constraint, line_refusal, with_line, refused_sheet, after_last, read_lines}
@@ -141,7 +142,7 @@ module _ (n s c : ℕ) (l : List ℕ) where
   head-ranges e = head_good l (head-told e)
 
   -- a group line
-  pub group-line : (done : ℕ) → line_refusal n s c done l ≡ 0 → (done ≡ 0 → ⊥) → done ≤ s → GroupLine n l × (every (good_mark l) (range 0 n) ≡ true)
+  pub group-line : (done : ℕ) → line_refusal n s c done l ≡ 0 → (done ≡ 0 → ⊥) → done ≤ s → GroupLine n l × (list_all (good_mark l) (range 0 n) ≡ true)
   unfolding line_refusal group_refusal
   group-line done e z h =
       let g : group_refusal n done l ≡ 0 = rw (ne_eqb done 0 z, le-leb done s h) at (form-passed l _ e) in
@@ -149,7 +150,7 @@ module _ (n s c : ℕ) (l : List ℕ) where
       let b = passed (eqb (length l / 4) (4 + n)) 5 _ a.1 in
       let d = passed (leb (value_at l 2) (value_at l 3)) 6 _ b.1 in
       let f = passed (leb (value_at l 3) n) 6 _ d.1 in
-      let k = passed (every (good_mark l) (range 0 n)) 6 _ f.1 in
+      let k = passed (list_all (good_mark l) (range 0 n)) 6 _ f.1 in
       ((form-good l _ e, eqb-true (value_at l 0) 2 a.0, eqb-true (length l / 4) (4 + n) b.0), k.0)
 
   -- a constraint line

@@ -1,6 +1,7 @@
 -- Sheets that differ only in mark columns, blank in one and a written 1 in the other: request 3 of document 02, on bytes.
 use Rattle.std.specs.Prelude.{ℕ, ◌/◌, Bool, ◌&&◌, ◌||◌, List, [], ◌∷◌, leb, eqb, length}
-use Rattle.model.specs.Lists.{every, pairwise, range}
+use Rattle.std.specs.List.{list_all}
+use Rattle.model.specs.Lists.{pairwise, range}
 use Rattle.model.specs.Sheet.{lines_of, field_at, value_at}
 
 abbrev pub same_bytes : List ℕ → List ℕ → Bool
@@ -20,7 +21,7 @@ same_field k l i =
 abbrev pub same_line : List ℕ → List ℕ → Bool
 same_line k l =
     same_bytes k l
-    || (eqb (length k) (length l) && eqb (value_at k 0) 2 && eqb (value_at l 0) 2 && every (same_field k l) (range 0 (length k / 4)))
+    || (eqb (length k) (length l) && eqb (value_at k 0) 2 && eqb (value_at l 0) 2 && list_all (same_field k l) (range 0 (length k / 4)))
 
 -- "Two sheets that differ only in mark columns": as long as each other, as many lines, line by line the same
 unfoldable pub same_but_blanks : List ℕ → List ℕ → Bool

@@ -1,3 +1,4 @@
 pub mod Line
 pub mod Blanks
 pub mod Orders
+pub mod Refusals

@@ -2,14 +2,52 @@
 #![tactic(auto)]
 
 ghost use Rattle.std.specs.Prelude.{◌≡◌, ℕ, ◌≤◌, ◌<◌, ◌+◌, ◌/◌, ◌^◌, Bool, true, cond, ◌&&◌, List, T, leb, eqb, length};
-ghost use Rattle.model.specs.Lists.{every, range};
+ghost use Rattle.std.specs.List.{list_all};
+ghost use Rattle.model.specs.Lists.{range};
 ghost use Rattle.model.specs.Limits.{limits};
-ghost use Rattle.model.specs.Sheet.{field_at, after_spaces, field_value, digits_value, field_refusal, field_number, if_none, or_zero, number_in, value_at, form_refusal, head_refusal, mark_at, group_refusal, group_from, group_count, count_from, constraint_from, constraint_refusal, line_refusal, refused_sheet, read_sheet};
+ghost use Rattle.model.specs.Sheet.{field_at, after_spaces, field_value, field_refusal, field_number, if_none, or_zero, number_in, value_at, form_refusal, head_refusal, mark_at, group_refusal, group_from, group_count, count_from, constraint_from, constraint_refusal, line_refusal, refused_sheet, read_sheet};
+ghost use Rattle.sheet.specs.Refusals.{refusal_number, judged};
 ghost use Rattle.sheet.specs.Line.{line_length, good_mark, plain_value, GroupLine, ConstraintLine};
 ghost use Rattle.sheet.specs.Blanks.{same_but_blanks};
 ghost use Rattle.sheet.specs.Orders.{Orders};
 
-use model::{Constraint, Digits, Field, Group, Model, SheetRead};
+use model::{Constraint, Field, Group, Model, SheetRead};
+
+// Why a line is refused.
+#[derive(Clone, Copy, PartialEq, Eq)]
+pub enum Refusal {
+    // no bytes, or not a multiple of four
+    Width,
+    // a field that is no number
+    Field,
+    // another kind of line is due
+    Kind,
+    // the number of fields, a code, or the count of a union
+    Count,
+    // a number out of its range
+    Range,
+    // another group's line is due
+    Order,
+    // a group twice
+    Twice,
+}
+
+impl Refusal {
+    // Its number in document 01.
+    pub fn number(self) -> u32
+        ensures { result ≡ refusal_number self }
+    {
+        match self {
+            Refusal::Width => 3,
+            Refusal::Field => 4,
+            Refusal::Kind => 5,
+            Refusal::Count => 6,
+            Refusal::Range => 7,
+            Refusal::Order => 8,
+            Refusal::Twice => 9,
+        }
+    }
+}
 
 // The four bytes of field i of a line, or nothing where the line has no such field.
 pub fn field(line: &[u8], i: usize) -> &[u8]
@@ -28,14 +66,11 @@ pub fn field(line: &[u8], i: usize) -> &[u8]
 fn unspaced(f: &[u8]) -> &[u8]
     ensures { result.now ≡ after_spaces f.now }
 {
-    let mut i: usize = 0;
-    while i < f.len() {
-        if f[i] != 32 {
-            return &f[i..];
-        }
-        i += 1;
+    let mut rest = f;
+    while let [b' ', after @ ..] = rest {
+        rest = after;
     }
-    &f[i..]
+    rest
 }
 
 // What stands in a field: a number, nothing, or what is neither.
@@ -57,20 +92,20 @@ pub fn read_field(f: &[u8]) -> Field
         }
         return Field::Bad;
     }
-    let Digits::Number(v) = model::decimal(d) else {
+    let Some(v) = model::decimal(d) else {
         return Field::Bad;
     };
     Field::Number(v)
 }
 
 // The number that a field says in a mark column or elsewhere: 1 where a mark is blank.
-fn number_in(f: &[u8], mark: bool) -> Digits
-    ensures { (if_none 4 (digits_value result) ≡ field_refusal (field_value f.now) mark) × (or_zero (digits_value result) ≡ field_number (field_value f.now) mark) }
+fn number_in(f: &[u8], mark: bool) -> Option<u32>
+    ensures { (if_none 4 result ≡ field_refusal (field_value f.now) mark) × (or_zero result ≡ field_number (field_value f.now) mark) }
 {
     match read_field(f) {
-        Field::Number(v) => Digits::Number(v),
-        Field::Blank => { if mark { Digits::Number(1) } else { Digits::Bad } }
-        Field::Bad => Digits::Bad,
+        Field::Number(v) => Some(v),
+        Field::Blank => mark.then_some(1),
+        Field::Bad => None,
     }
 }
 
@@ -78,10 +113,7 @@ fn number_in(f: &[u8], mark: bool) -> Digits
 pub fn value(line: &[u8], i: usize) -> u32
     ensures { result ≡ value_at line.now i }
 {
-    let Digits::Number(v) = number_in(field(line, i), false) else {
-        return 0;
-    };
-    v
+    number_in(field(line, i), false).unwrap_or(0)
 }
 
 // The mark of bit e in a group line of good marks, by the last byte of its field.
@@ -117,101 +149,96 @@ pub fn is_mark_column(kind: u32, i: usize) -> bool
     kind == 2
 }
 
-// Refusals 3 and 4 of a line; 0 where neither applies.
-fn form_refusal(line: &[u8]) -> u32
-    ensures { result ≡ form_refusal line.now }
+// Refusals 3 and 4 of a line.
+fn form_refusal(line: &[u8]) -> Result<(), Refusal>
+    ensures { judged result ≡ form_refusal line.now }
 {
     let n = line.len();
     if n == 0 {
-        return 3;
+        return Err(Refusal::Width);
     }
     if n % 4 != 0 {
-        return 3;
+        return Err(Refusal::Width);
     }
     let kind = value(line, 0);
-    let k = n / 4;
-    let mut i: usize = 0;
-    while i < k {
-        let Digits::Number(_) = number_in(field(line, i), is_mark_column(kind, i)) else {
-            return 4;
+    for i in 0..n / 4 {
+        let Some(_) = number_in(field(line, i), is_mark_column(kind, i)) else {
+            return Err(Refusal::Field);
         };
-        i += 1;
     }
-    0
+    Ok(())
 }
 
 // Refusals 5 to 7 of the head.
-pub fn head_refusal(line: &[u8]) -> u32
-    ensures { result ≡ head_refusal line.now }
+pub fn head_refusal(line: &[u8]) -> Result<(), Refusal>
+    ensures { judged result ≡ head_refusal line.now }
 {
     if value(line, 0) != 1 {
-        return 5;
+        return Err(Refusal::Kind);
     }
     if line.len() / 4 != 4 {
-        return 6;
+        return Err(Refusal::Count);
     }
     let n = value(line, 1);
     if n < 1 {
-        return 7;
+        return Err(Refusal::Range);
     }
     if Model::ENTRANTS < n {
-        return 7;
+        return Err(Refusal::Range);
     }
     let s = value(line, 2);
     if s < 1 {
-        return 7;
+        return Err(Refusal::Range);
     }
     if model::groups_for(n) < s as usize {
-        return 7;
+        return Err(Refusal::Range);
     }
     if Model::CONSTRAINTS < value(line, 3) as usize {
-        return 7;
+        return Err(Refusal::Range);
     }
-    0
+    Ok(())
 }
 
 // Every mark of a group line is 0, 1 or 2: in a field of the right form, no digit before the last, and that at most 2.
 fn good_marks(line: &[u8], n: u32) -> bool
     requires { (n ≤ limits.entrants) × GroupLine n line.now }
-    ensures { result ≡ every (good_mark line.now) (range 0 n) }
+    ensures { result ≡ list_all (good_mark line.now) (range 0 n) }
 {
-    let mut e: u32 = 0;
-    while e < n {
+    for e in 0..n {
         let a = e as usize * 4 + 16;
         let high = (line[a] % 16 != 0) | (line[a + 1] % 16 != 0) | (line[a + 2] % 16 != 0);
         if high | (2 < line[a + 3] % 16) {
             return false;
         }
-        e += 1;
     }
     true
 }
 
 // Refusals 5 to 8 of the line of group g.
-fn group_refusal(n: u32, g: u32, line: &[u8]) -> u32
+fn group_refusal(n: u32, g: u32, line: &[u8]) -> Result<(), Refusal>
     requires { (n ≤ limits.entrants) × (form_refusal line.now ≡ 0) }
-    ensures { result ≡ group_refusal n g line.now }
+    ensures { judged result ≡ group_refusal n g line.now }
 {
     if value(line, 0) != 2 {
-        return 5;
+        return Err(Refusal::Kind);
     }
     if line.len() / 4 != 4 + n as usize {
-        return 6;
+        return Err(Refusal::Count);
     }
     let high = value(line, 3);
     if high < value(line, 2) {
-        return 7;
+        return Err(Refusal::Range);
     }
     if n < high {
-        return 7;
+        return Err(Refusal::Range);
     }
     if !good_marks(line, n) {
-        return 7;
+        return Err(Refusal::Range);
     }
     if value(line, 1) != g {
-        return 8;
+        return Err(Refusal::Order);
     }
-    0
+    Ok(())
 }
 
 // The word w, below bit e, with bit e set where `on`.
@@ -227,17 +254,15 @@ fn with_bit(w: u64, e: u32, on: bool) -> u64
 
 // The group of a group line with n marks.
 fn read_group(n: u32, line: &[u8]) -> Group
-    requires { (n ≤ limits.entrants) × GroupLine n line.now × (every (good_mark line.now) (range 0 n) ≡ true) }
+    requires { (n ≤ limits.entrants) × GroupLine n line.now × (list_all (good_mark line.now) (range 0 n) ≡ true) }
     ensures { result ≡ group_from n line.now }
 {
     let mut fixed: u64 = 0;
     let mut possible: u64 = 0;
-    let mut e: u32 = 0;
-    while e < n {
+    for e in 0..n {
         let m = mark(line, e);
         fixed = with_bit(fixed, e, m == 2);
         possible = with_bit(possible, e, m != 0);
-        e += 1;
     }
     Group {
         fixed,
@@ -284,10 +309,8 @@ fn read_numbers(line: &[u8], code: u32, k: usize) -> [u32; Model::MEMBERS]
 {
     let a = first_group(code);
     let mut groups: [u32; Model::MEMBERS] = [0; Model::MEMBERS];
-    let mut i: usize = 0;
-    while i < k {
+    for i in 0..k {
         groups[i] = plain(line, a + i);
-        i += 1;
     }
     groups
 }
@@ -308,40 +331,37 @@ fn read_constraint(line: &[u8]) -> Constraint
 }
 
 // Refusals 5 to 9 of a constraint line.
-fn constraint_refusal(s: u32, line: &[u8]) -> u32
+fn constraint_refusal(s: u32, line: &[u8]) -> Result<(), Refusal>
     requires { form_refusal line.now ≡ 0 }
-    ensures { result ≡ constraint_refusal s line.now }
+    ensures { judged result ≡ constraint_refusal s line.now }
 {
     if value(line, 0) != 3 {
-        return 5;
+        return Err(Refusal::Kind);
     }
     let code = value(line, 1);
     if !range::code_in_range(code, count_from(line, code)) {
-        return 6;
+        return Err(Refusal::Count);
     }
     let k = group_count(line, code);
     if line.len() / 4 != first_group(code) + k {
-        return 6;
+        return Err(Refusal::Count);
     }
     let groups = read_numbers(line, code, k);
     if !range::all_between(groups, k, s) {
-        return 7;
+        return Err(Refusal::Range);
     }
     if !range::all_distinct(groups, k) {
-        return 9;
+        return Err(Refusal::Twice);
     }
-    0
+    Ok(())
 }
 
-// The refusal of a line after `done` lines, of which the head said n, s and c; 0 where there is none.
-fn line_refusal(n: u32, s: u32, c: u32, done: u32, line: &[u8]) -> u32
+// A line after `done` lines, of which the head said n, s and c.
+fn line_refusal(n: u32, s: u32, c: u32, done: u32, line: &[u8]) -> Result<(), Refusal>
     requires { (n ≤ limits.entrants) × (s ≤ limits.groups) × (c ≤ limits.constraints) }
-    ensures { result ≡ line_refusal n s c done line.now }
+    ensures { judged result ≡ line_refusal n s c done line.now }
 {
-    let bad = form_refusal(line);
-    if bad != 0 {
-        return bad;
-    }
+    form_refusal(line)?;
     if done == 0 {
         return head_refusal(line);
     }
@@ -351,31 +371,14 @@ fn line_refusal(n: u32, s: u32, c: u32, done: u32, line: &[u8]) -> u32
     if done <= s + c {
         return constraint_refusal(s, line);
     }
-    5
+    Err(Refusal::Kind)
 }
 
-// The length of the first line: sixteen bytes at a time while none of them ends it, then byte by byte.
+// The length of the first line.
 pub fn line_length(s: &[u8]) -> usize
     ensures { result ≡ line_length s.now }
 {
-    let mut i: usize = 0;
-    while 16 <= s.len() - i {
-        let a = (s[i] == 10) | (s[i + 1] == 10) | (s[i + 2] == 10) | (s[i + 3] == 10);
-        let b = (s[i + 4] == 10) | (s[i + 5] == 10) | (s[i + 6] == 10) | (s[i + 7] == 10);
-        let c = (s[i + 8] == 10) | (s[i + 9] == 10) | (s[i + 10] == 10) | (s[i + 11] == 10);
-        let d = (s[i + 12] == 10) | (s[i + 13] == 10) | (s[i + 14] == 10) | (s[i + 15] == 10);
-        if a | b | c | d {
-            break;
-        }
-        i += 16;
-    }
-    while i < s.len() {
-        if s[i] == 10 {
-            return i;
-        }
-        i += 1;
-    }
-    i
+    model::length_before(s, b'\n')
 }
 
 fn refused(refusal: u32, line: u32) -> SheetRead
@@ -412,9 +415,8 @@ pub fn read_sheet(sheet: &[u8]) -> SheetRead
         let rest = &sheet[at..];
         let len = line_length(rest);
         let line = &rest[..len];
-        let bad = line_refusal(m.n, m.s, m.c, done, line);
-        if bad != 0 {
-            return refused(bad, done + 1);
+        if let Err(refusal) = line_refusal(m.n, m.s, m.c, done, line) {
+            return refused(refusal.number(), done + 1);
         }
         if done == 0 {
             m.n = value(line, 1);

@@ -8,7 +8,8 @@ use borrow.Author.Tests.{eqb-true, eqb-false, ne_eqb, leb-true, leb-false, le-le
 use lib.Dec.{leb, eqb}
 use lib.ListN.{length, take, replicate}
 use lib.Seq.{take-append_seam}
-use Rattle.model.specs.Lists.{every, between, distinct, range, stop}
+use Rattle.std.specs.List.{list_all}
+use Rattle.model.specs.Lists.{between, distinct, range, stop}
 use Rattle.model.specs.Limits.{limits, groups_for}
 use Rattle.model.specs.Sheet.{value_at, is_mark_column, good_field, form_refusal, head_refusal, mark_at, group_refusal, first_group, count_from, group_count, constraint_from, constraint_refusal, line_refusal}
 use Rattle.model.specs.Clauses.{member_count, groups_of}
@@ -24,7 +25,7 @@ pub record First (test : ℕ → Bool) (a k i : ℕ) : Type 0 where
   pub fails : test i ≡ false
   pub first : (j : ℕ) → a ≤ j → j < i → test j ≡ true
 
-named : (p : ℕ → Bool) (a k : ℕ) → a ≤ k → every p (range a (k - a)) ≡ false → First p a k (first_not p a (k - a))
+named : (p : ℕ → Bool) (a k : ℕ) → a ≤ k → list_all p (range a (k - a)) ≡ false → First p a k (first_not p a (k - a))
 named p a k h e =
     let r = there-fails p a (k - a) e in
     record { inside = omega (arith, r.0); fails = r.1; first = λ j x y. before-holds p a (k - a) j x y }
@@ -71,10 +72,10 @@ module _ (h : Head) (done : ℕ) (l : List ℕ) where
       (between 1 (groups_for (value_at l 1)) (value_at l 2)) (leb (value_at l 3) limits.constraints) e
   rest-not-4 false true z e =
       group-not_4 (eqb (value_at l 0) 2) (eqb (length l / 4) (4 + h.n)) (leb (value_at l 2) (value_at l 3)) (leb (value_at l 3) h.n)
-      (every (λ e. leb (mark_at l e) 2) (range 0 h.n)) (eqb (value_at l 1) done) e
+      (list_all (λ e. leb (mark_at l e) 2) (range 0 h.n)) (eqb (value_at l 1) done) e
   rest-not-4 false false true e =
       constraint_not_4 (eqb (value_at l 0) 3) (code_in_range (value_at l 1) (count_from l)) (eqb (length l / 4) (first_group l + group_count l))
-      (every (between 1 h.s) (groups_of (constraint_from l))) (distinct (groups_of (constraint_from l))) e
+      (list_all (between 1 h.s) (groups_of (constraint_from l))) (distinct (groups_of (constraint_from l))) e
   rest-not-4 false false false e = omega arith
 
   of-form : line_refusal h.n h.s h.c done l ≡ 4 → form_refusal l ≡ 4
@@ -93,7 +94,7 @@ module _ (h : Head) (done : ℕ) (l : List ℕ) where
   pub first-unread : line_refusal h.n h.s h.c done l ≡ 4 → First (good_field l) 0 (length l / 4) (bad_field l)
   unfolding form_refusal bad_field
   first-unread e =
-      let f = four-fails (eqb (length l) 0) (eqb (length l % 4) 0) (every (good_field l) (range 0 (length l / 4))) (of-form e) in
+      let f = four-fails (eqb (length l) 0) (eqb (length l % 4) 0) (list_all (good_field l) (range 0 (length l / 4))) (of-form e) in
       let r = there-fails (good_field l) 0 (length l / 4) f in
       record { inside = omega (arith, r.0); fails = r.1; first = λ j x y. before-holds (good_field l) 0 (length l / 4) j x y }
 
@@ -108,7 +109,7 @@ chain-not_7 false true false e = omega arith
 
 form-not_7 : (l : List ℕ) → form_refusal l ≡ 7 → ⊥
 unfolding form_refusal
-form-not_7 l e = chain-not_7 (eqb (length l) 0) (eqb (length l % 4) 0) (every (good_field l) (range 0 (length l / 4))) e
+form-not_7 l e = chain-not_7 (eqb (length l) 0) (eqb (length l % 4) 0) (list_all (good_field l) (range 0 (length l / 4))) e
 
 form-passed : (l : List ℕ) (rest : ℕ) → stop (not (eqb (form_refusal l) 0)) (form_refusal l) rest ≡ 7 → rest ≡ 7
 form-passed l rest e = go (eqb (form_refusal l) 0) e
@@ -130,7 +131,7 @@ from_zero : (k v : ℕ) → between 0 k v ≡ leb v k
 from_zero k v = rw (le-leb 0 v (omega arith))
 
 module _ (h : Head) (l : List ℕ) where
-  head-tests : every (in_range h 0 l) (range 1 3)
+  head-tests : list_all (in_range h 0 l) (range 1 3)
       ≡ (between 1 limits.entrants (value_at l 1) && (between 1 (groups_for (value_at l 1)) (value_at l 2) && (leb (value_at l 3) limits.constraints && true)))
   unfolding in_range field_range head_range number_at is_mark_column value_at
   head-tests = rw (from_zero limits.constraints (value_at l 3))
@@ -201,7 +202,7 @@ module _ (h : Head) (done : ℕ) (l : List ℕ) (some : done ≡ 0 → ⊥) (few
       let b : eqb (4 + e) 3 ≡ false = ne_eqb (4 + e) 3 (λ q. omega arith) in
       rw (ranges (4 + e), a, b, le-leb 4 (4 + e) (omega arith), kind) (from_zero 2 (mark_at l e))
 
-  mark-tests : (a k : ℕ) → every (in_range h done l) (range (4 + a) k) ≡ every (λ e. leb (mark_at l e) 2) (range a k)
+  mark-tests : (a k : ℕ) → list_all (in_range h done l) (range (4 + a) k) ≡ list_all (λ e. leb (mark_at l e) 2) (range a k)
   mark-tests a zero = refl
   mark-tests a (suc k) =
       let next : suc (4 + a) ≡ 4 + suc a = omega arith in
@@ -210,11 +211,11 @@ module _ (h : Head) (done : ℕ) (l : List ℕ) (some : done ≡ 0 → ⊥) (few
   group-out : group_refusal h.n done l ≡ 7 → First (in_range h done l) (first_judged h done l) (length l / 4) (out_field h done l)
   unfolding group_refusal first_judged out_field
   group-out e =
-      let marks = every (λ e. leb (mark_at l e) 2) (range 0 h.n) in
+      let marks = list_all (λ e. leb (mark_at l e) 2) (range 0 h.n) in
       let r = group-chain (eqb (value_at l 0) 2) (eqb (length l / 4) (4 + h.n)) (leb (value_at l 2) (value_at l 3)) (leb (value_at l 3) h.n) marks (eqb (value_at l 1) done) e in
       let fields : length l / 4 ≡ 4 + h.n = eqb-true (length l / 4) (4 + h.n) r.1.0 in
       let two : 4 + h.n - 2 ≡ suc (suc h.n) = omega arith in
-      let tests : every (in_range h done l) (range 2 (4 + h.n - 2)) ≡ false =
+      let tests : list_all (in_range h done l) (range 2 (4 + h.n - 2)) ≡ false =
       rw (two, low-test, high-test, mark-tests 0 h.n) (low-out (value_at l 2) (value_at l 3) h.n marks r.1.1) in
       rw (ne_eqb done 0 some, le-leb done h.s few, fields) (named (in_range h done l) 2 (4 + h.n) (omega arith) tests)
 
@@ -242,7 +243,7 @@ module _ (h : Head) (done : ℕ) (l : List ℕ) (some : done ≡ 0 → ⊥) (man
   unfolding in_range field_range number_at is_mark_column value_at
   group-test i = rw (ne_eqb done 0 some, lt-leb done h.s many, kind, and-false (leb 4 i))
 
-  group-tests : (a j k : ℕ) → every (in_range h done l) (range (a + j) k) ≡ every (between 1 h.s) (map (λ i. value_at l (a + i)) (range j k))
+  group-tests : (a j k : ℕ) → list_all (in_range h done l) (range (a + j) k) ≡ list_all (between 1 h.s) (map (λ i. value_at l (a + i)) (range j k))
   group-tests a j zero = refl
   group-tests a j (suc k) =
       let next : suc (a + j) ≡ a + suc j = omega arith in
@@ -251,12 +252,12 @@ module _ (h : Head) (done : ℕ) (l : List ℕ) (some : done ≡ 0 → ⊥) (man
   constraint-out : constraint_refusal h.s l ≡ 7 → First (in_range h done l) (first_judged h done l) (length l / 4) (out_field h done l)
   unfolding constraint_refusal first_judged out_field
   constraint-out e =
-      let r = constraint_chain (eqb (value_at l 0) 3) (code_in_range (value_at l 1) (count_from l)) (eqb (length l / 4) (first_group l + group_count l)) (every (between 1 h.s) (groups_of (constraint_from l))) (distinct (groups_of (constraint_from l))) e in
+      let r = constraint_chain (eqb (value_at l 0) 3) (code_in_range (value_at l 1) (count_from l)) (eqb (length l / 4) (first_group l + group_count l)) (list_all (between 1 h.s) (groups_of (constraint_from l))) (distinct (groups_of (constraint_from l))) e in
       let fields : length l / 4 ≡ first_group l + group_count l = eqb-true (length l / 4) (first_group l + group_count l) r.1.0 in
       let rest : first_group l + group_count l - first_group l ≡ group_count l = omega arith in
       let start : first_group l + 0 ≡ first_group l = omega arith in
-      let tests : every (in_range h done l) (range (first_group l) (first_group l + group_count l - first_group l)) ≡ false =
-      rw (rest) (ap (λ (a : ℕ). every (in_range h done l) (range a (group_count l))) (sym start) ∙ group-tests (first_group l) 0 (group_count l) ∙ ap (every (between 1 h.s)) (sym (groups_are l)) ∙ r.1.1) in
+      let tests : list_all (in_range h done l) (range (first_group l) (first_group l + group_count l - first_group l)) ≡ false =
+      rw (rest) (ap (λ (a : ℕ). list_all (in_range h done l) (range a (group_count l))) (sym start) ∙ group-tests (first_group l) 0 (group_count l) ∙ ap (list_all (between 1 h.s)) (sym (groups_are l)) ∙ r.1.1) in
       rw (ne_eqb done 0 some, lt-leb done h.s many, fields) (named (in_range h done l) (first_group l) (first_group l + group_count l) (omega arith) tests)
 
 -- ---- 7 of the line after `done` lines, of which the head said h

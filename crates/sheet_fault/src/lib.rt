@@ -27,10 +27,8 @@ fn line_at(sheet: &[u8], done: u32) -> &[u8]
     ensures { result.now ≡ line_at sheet.now done }
 {
     let mut at: usize = 0;
-    let mut left = done;
-    while 0 < left {
+    for _line in 0..done {
         at = next_line(sheet, at);
-        left -= 1;
     }
     let rest = &sheet[at..];
     let n = sheet::line_length(rest);
@@ -55,7 +53,7 @@ fn line_count(sheet: &[u8]) -> u32
 fn head_of(line: &[u8]) -> Head
     ensures { (result ≡ head_of line.now) × (result.s ≤ limits.groups) × (result.c ≤ limits.constraints) }
 {
-    if sheet::head_refusal(line) != 0 {
+    if sheet::head_refusal(line).is_err() {
         return Head { n: 0, s: 0, c: 0 };
     }
     Head {
@@ -99,15 +97,6 @@ fn kind_due(h: Head, done: u32) -> u32
     0
 }
 
-fn one_less(k: u32) -> u32
-    ensures { result ≡ k - 1 }
-{
-    if k == 0 {
-        return 0;
-    }
-    k - 1
-}
-
 // The fault of a sheet that the reader refused, with its refusal and line.
 pub fn find(sheet: &[u8], refusal: u32, line: u32) -> Fault
     ensures { result ≡ sheet_fault sheet.now refusal line }
@@ -119,7 +108,7 @@ pub fn find(sheet: &[u8], refusal: u32, line: u32) -> Fault
         return end_fault(sheet);
     }
     let h = head_of(line_at(sheet, 0));
-    let done = one_less(line);
+    let done = line.saturating_sub(1);
     if is_of_lines(refusal, h.s) {
         return Fault::Lines(h, h.s + h.c + 1, line_count(sheet), kind_due(h, done));
     }

@@ -10,7 +10,8 @@ use lib.ListN.{length, get_or, drop, replicate, length-append, length-replicate,
 use lib.Seq.{drop-cons, drop-nil, take_at, drop-append-add}
 use Rattle.model.specs.declared.Field.{Field}
 use Rattle.model.specs.declared.Field.TheVariants.{Number}
-use Rattle.model.specs.Lists.{every, each, range}
+use Rattle.std.specs.List.{list_all, flat_map}
+use Rattle.model.specs.Lists.{range}
 use Rattle.model.specs.Sheet.{after_spaces, field_value, field_number, field_at, value_at, mark_at, good_field, form_refusal}
 use Rattle.model.specs.Text.{decimal, field_text}
 use Rattle.model.proofs.Lists.{T_true, range-every, All, all_append, all-imp, all-each, all-place}
@@ -65,58 +66,58 @@ field-printed v h =
 
 -- ---- a row of fields
 
-pub row-length : (fs : List ℕ) → All Short fs → length (each field_text fs) ≡ length fs * 4
+pub row-length : (fs : List ℕ) → All Short fs → length (flat_map field_text fs) ≡ length fs * 4
 row-length [] a = refl
 row-length (v ∷ fs) a =
-    length-append (field_text v) (each field_text fs) ∙ omega (arith, field-length v a.0, row-length fs a.1)
+    length-append (field_text v) (flat_map field_text fs) ∙ omega (arith, field-length v a.0, row-length fs a.1)
 
-row_drop : (fs : List ℕ) → All Short fs → (i : ℕ) → drop (i * 4) (each field_text fs) ≡ each field_text (drop i fs)
+row_drop : (fs : List ℕ) → All Short fs → (i : ℕ) → drop (i * 4) (flat_map field_text fs) ≡ flat_map field_text (drop i fs)
 row_drop fs a zero = refl
 row_drop [] a (suc i) = drop-nil (suc i * 4)
 row_drop (v ∷ fs) a (suc i) =
     let n : suc i * 4 ≡ length (field_text v) + i * 4 = omega (arith, field-length v a.0) in
-    ap (λ (k : ℕ). drop k (field_text v ++ each field_text fs)) n
-    ∙ drop-append-add (field_text v) (each field_text fs) (i * 4)
+    ap (λ (k : ℕ). drop k (field_text v ++ flat_map field_text fs)) n
+    ∙ drop-append-add (field_text v) (flat_map field_text fs) (i * 4)
     ∙ row_drop fs a.1 i
 
 module _ (fs : List ℕ) (a : All Short fs) where
   -- how many fields the reader counts
-  pub row-fields : length (each field_text fs) / 4 ≡ length fs
+  pub row-fields : length (flat_map field_text fs) / 4 ≡ length fs
   row-fields = omega (arith, row-length fs a)
 
-  field-at : (i : ℕ) → i < length fs → field_at (each field_text fs) i ≡ field_text (get_or fs i 0)
+  field-at : (i : ℕ) → i < length fs → field_at (flat_map field_text fs) i ≡ field_text (get_or fs i 0)
   unfolding field_at
   field-at i h =
       rw (row-fields, lt-ltb i (length fs) h, row_drop fs a i, drop-cons fs i 0 h)
-      (take_at (field_text (get_or fs i 0)) (each field_text (drop (suc i) fs)) 4 (field-length (get_or fs i 0) (all-place Short 0 fs a i h)))
+      (take_at (field_text (get_or fs i 0)) (flat_map field_text (drop (suc i) fs)) 4 (field-length (get_or fs i 0) (all-place Short 0 fs a i h)))
 
-  value_in : (i : ℕ) → i < length fs → field_value (field_at (each field_text fs) i) ≡ Number (get_or fs i 0)
+  value_in : (i : ℕ) → i < length fs → field_value (field_at (flat_map field_text fs) i) ≡ Number (get_or fs i 0)
   value_in i h = ap field_value (field-at i h) ∙ field-value (get_or fs i 0) (all-place Short 0 fs a i h)
 
   -- the number in each field, a mark column or not, and 0 past the last
-  number_in : (i : ℕ) (mark : Bool) → field_number (field_value (field_at (each field_text fs) i)) mark ≡ get_or fs i 0
+  number_in : (i : ℕ) (mark : Bool) → field_number (field_value (field_at (flat_map field_text fs) i)) mark ≡ get_or fs i 0
   number_in i mark = go (dec_lt i (length fs))
     where
-      go : Dec (i < length fs) → field_number (field_value (field_at (each field_text fs) i)) mark ≡ get_or fs i 0
+      go : Dec (i < length fs) → field_number (field_value (field_at (flat_map field_text fs) i)) mark ≡ get_or fs i 0
       go (yes h) = ap (λ (x : Field). field_number x mark) (value_in i h)
       go (no h) = unfold field_at field_value in rw (row-fields, le-ltb i (length fs) (omega arith)) (sym (get_or-eq_default fs 0 (omega arith)))
 
-  pub row-value : (i : ℕ) → value_at (each field_text fs) i ≡ get_or fs i 0
+  pub row-value : (i : ℕ) → value_at (flat_map field_text fs) i ≡ get_or fs i 0
   unfolding value_at
   row-value i = number_in i false
 
-  pub row-mark : (e : ℕ) → mark_at (each field_text fs) e ≡ get_or fs (4 + e) 0
+  pub row-mark : (e : ℕ) → mark_at (flat_map field_text fs) e ≡ get_or fs (4 + e) 0
   unfolding mark_at
   row-mark e = number_in (4 + e) true
 
-  pub row-form : 0 < length fs → form_refusal (each field_text fs) ≡ 0
+  pub row-form : 0 < length fs → form_refusal (flat_map field_text fs) ≡ 0
   unfolding form_refusal good_field
   row-form h =
       let l = row-length fs a in
-      let m : length (each field_text fs) % 4 ≡ 0 = omega (arith, l) in
-      let good : every (good_field (each field_text fs)) (range 0 (length fs)) ≡ true =
-      T_true _ (range-every (good_field (each field_text fs)) 0 (length fs) (λ i _ k. rw (value_in i (omega arith)) tt)) in
-      rw (ne_eqb (length (each field_text fs)) 0 (λ e. omega arith), eq-eqb (length (each field_text fs) % 4) 0 m, row-fields, good)
+      let m : length (flat_map field_text fs) % 4 ≡ 0 = omega (arith, l) in
+      let good : list_all (good_field (flat_map field_text fs)) (range 0 (length fs)) ≡ true =
+      T_true _ (range-every (good_field (flat_map field_text fs)) 0 (length fs) (λ i _ k. rw (value_in i (omega arith)) tt)) in
+      rw (ne_eqb (length (flat_map field_text fs)) 0 (λ e. omega arith), eq-eqb (length (flat_map field_text fs) % 4) 0 m, row-fields, good)
 
-  pub row-printed : All (λ b. 32 ≤ b) (each field_text fs)
+  pub row-printed : All (λ b. 32 ≤ b) (flat_map field_text fs)
   row-printed = all-each (λ b. 32 ≤ b) field_text fs (all-imp Short (λ v. All (λ b. 32 ≤ b) (field_text v)) field-printed fs a)

@@ -12,7 +12,8 @@ use lib.ListN.{length, get_or, length-append, length-take}
 use lib.Pow.{pow_pos}
 use Rattle.model.specs.declared.Constraint.{Constraint}
 use Rattle.model.specs.declared.Model.{Model}
-use Rattle.model.specs.Lists.{each, range}
+use Rattle.std.specs.List.{flat_map}
+use Rattle.model.specs.Lists.{range}
 use Rattle.model.specs.Limits.{limits}
 use Rattle.model.specs.Clauses.{member_count}
 use Rattle.model.specs.Model.{zero_group, table_of, constraints_of, group_at, group_in_range, constraint_in_range, in_range}
@@ -33,7 +34,7 @@ group_row m g = group_fields m.n g (group_at (table_of m) g)
 -- ---- the text in three parts
 
 pub sheet_parts : (m : Model)
-    → sheet_text m ≡ line_text (head_fields m) ++ each (group_text m.n (table_of m)) (range 1 m.s) ++ each constraint_text (constraints_of m)
+    → sheet_text m ≡ line_text (head_fields m) ++ flat_map (group_text m.n (table_of m)) (range 1 m.s) ++ flat_map constraint_text (constraints_of m)
 unfolding sheet_text sheet_fields
 sheet_parts m =
     let gs = map (group_row m) (range 1 m.s) in
@@ -41,13 +42,13 @@ sheet_parts m =
     ap (λ (t : List ℕ). line_text (head_fields m) ++ t)
     (each_append line_text gs cs
     ∙ ap₂ (λ (a b : List ℕ). a ++ b) (each_map line_text (group_row m) (range 1 m.s)) (each_map line_text constraint_fields (constraints_of m)))
-    ∙ sym (append_assoc (line_text (head_fields m)) (each (group_text m.n (table_of m)) (range 1 m.s)) (each constraint_text (constraints_of m)))
+    ∙ sym (append_assoc (line_text (head_fields m)) (flat_map (group_text m.n (table_of m)) (range 1 m.s)) (flat_map constraint_text (constraints_of m)))
 
 pub parts-length : (m : Model) → length (sheet_text m)
-    ≡ length (line_text (head_fields m)) + length (each (group_text m.n (table_of m)) (range 1 m.s)) + length (each constraint_text (constraints_of m))
+    ≡ length (line_text (head_fields m)) + length (flat_map (group_text m.n (table_of m)) (range 1 m.s)) + length (flat_map constraint_text (constraints_of m))
 parts-length m =
-    let gs = each (group_text m.n (table_of m)) (range 1 m.s) in
-    let cs = each constraint_text (constraints_of m) in
+    let gs = flat_map (group_text m.n (table_of m)) (range 1 m.s) in
+    let cs = flat_map constraint_text (constraints_of m) in
     ap length (sheet_parts m) ∙ length-append (line_text (head_fields m) ++ gs) cs
     ∙ ap (λ (k : ℕ). k + length cs) (length-append (line_text (head_fields m)) gs)
 
@@ -55,7 +56,7 @@ parts-length m =
 
 line-length : (fs : List ℕ) → All Short fs → length (line_text fs) ≡ line_length (length fs)
 unfolding line_text
-line-length fs a = length-append (each field_text fs) (10 ∷ []) ∙ ap (λ (k : ℕ). k + 1) (row-length fs a)
+line-length fs a = length-append (flat_map field_text fs) (10 ∷ []) ∙ ap (λ (k : ℕ). k + 1) (row-length fs a)
 
 module _ (s : ℕ) (c : Constraint) (t : T (constraint_in_range s c)) (few : s ≤ limits.groups) where
   -- a line of code 6 and count 16 is the longest
@@ -97,7 +98,7 @@ module _ (m : Model) (r : InRange m) where
 
   -- ---- the sheet
 
-  groups-length : length (each (group_text m.n (table_of m)) (range 1 m.s)) ≡ m.s * line_length (4 + m.n)
+  groups-length : length (flat_map (group_text m.n (table_of m)) (range 1 m.s)) ≡ m.s * line_length (4 + m.n)
   groups-length =
       length-each (group_text m.n (table_of m)) (range 1 m.s)
       ∙ total_const (λ g. length (group_text m.n (table_of m) g)) (line_length (4 + m.n)) 1 m.s
@@ -105,13 +106,13 @@ module _ (m : Model) (r : InRange m) where
       line-length (group_row m g) (group-row g (omega arith))
       ∙ ap line_length (group-count m.n g (group_at (table_of m) g) (group_at_lem g) r.entrants low))
 
-  pub sheet-length : length (sheet_text m) ≡ line_length 4 + m.s * line_length (4 + m.n) + length (each constraint_text (constraints_of m))
+  pub sheet-length : length (sheet_text m) ≡ line_length 4 + m.s * line_length (4 + m.n) + length (flat_map constraint_text (constraints_of m))
   sheet-length = parts-length m ∙ omega (arith, head, groups-length)
     where
       head : length (line_text (head_fields m)) ≡ line_length 4
       head = line-length (head_fields m) (head-short m r) ∙ unfold head_fields in refl
 
-  constraints-bound : length (each constraint_text (constraints_of m)) ≤ m.c * line_length (3 + limits.members)
+  constraints-bound : length (flat_map constraint_text (constraints_of m)) ≤ m.c * line_length (3 + limits.members)
   unfolding constraints_of
   constraints-bound =
       let longest = line_length (3 + limits.members) in

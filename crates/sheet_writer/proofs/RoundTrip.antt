@@ -12,7 +12,8 @@ use lib.Seq.{sets, sets-eq}
 use Rattle.model.specs.declared.Group.{Group}
 use Rattle.model.specs.declared.Constraint.{Constraint}
 use Rattle.model.specs.declared.Model.{Model}
-use Rattle.model.specs.Lists.{each, range}
+use Rattle.std.specs.List.{flat_map}
+use Rattle.model.specs.Lists.{range}
 use Rattle.model.specs.Limits.{limits}
 use Rattle.model.specs.Model.{zero_group, zero_constraint, zero_model, table_of, constraints_of, group_at, constraint_in_range}
 use Rattle.model.specs.Sheet.{lines_of, form_refusal, group_refusal, group_from, constraint_from, line_refusal, with_line, read_lines}
@@ -30,13 +31,13 @@ use Rattle.sheet_writer.proofs.Rows.{head-form, head_good, head-tells, group-for
 
 -- ---- the lines of a text of rows
 
-rows_lines : (rows : List (List ℕ)) → All (All Short) rows → lines_of (each line_text rows) ≡ map (each field_text) rows
+rows_lines : (rows : List (List ℕ)) → All (All Short) rows → lines_of (flat_map line_text rows) ≡ map (flat_map field_text) rows
 unfolding line_text
 rows_lines [] a = refl
 rows_lines (fs ∷ rows) a =
-    ap lines_of (append_assoc (each field_text fs) (10 ∷ []) (each line_text rows))
-    ∙ line-cut (each field_text fs) (each line_text rows) (row-printed fs a.0)
-    ∙ ap {B = List (List ℕ)} (λ ls. each field_text fs ∷ ls) (rows_lines rows a.1)
+    ap lines_of (append_assoc (flat_map field_text fs) (10 ∷ []) (flat_map line_text rows))
+    ∙ line-cut (flat_map field_text fs) (flat_map line_text rows) (row-printed fs a.0)
+    ∙ ap {B = List (List ℕ)} (λ ls. flat_map field_text fs ∷ ls) (rows_lines rows a.1)
 
 -- ---- group lines, one after the other
 
@@ -101,30 +102,30 @@ module _ (m : Model) (w : Accurate m) where
 
   -- lines as the reader has them, without byte 10
   abbrev group_line : ℕ → List ℕ
-  group_line g = each field_text (group_row m g)
+  group_line g = flat_map field_text (group_row m g)
 
   abbrev constraint_line : Constraint → List ℕ
-  constraint_line c = each field_text (constraint_fields c)
+  constraint_line c = flat_map field_text (constraint_fields c)
 
   text-lines : lines_of (sheet_text m)
-      ≡ each field_text (head_fields m) ∷ map group_line (range 1 m.s) ++ map constraint_line (constraints_of m)
+      ≡ flat_map field_text (head_fields m) ∷ map group_line (range 1 m.s) ++ map constraint_line (constraints_of m)
   unfolding sheet_text sheet_fields
   text-lines =
       rows_lines (sheet_fields m) (rows_short m r)
-      ∙ ap {B = List (List ℕ)} (λ ls. each field_text (head_fields m) ∷ ls)
-      (map-append (each field_text) (map (group_row m) (range 1 m.s)) (map constraint_fields (constraints_of m))
-      ∙ ap₂ (λ (a b : List (List ℕ)). a ++ b) (map-map (each field_text) (group_row m) (range 1 m.s)) (map-map (each field_text) constraint_fields (constraints_of m)))
+      ∙ ap {B = List (List ℕ)} (λ ls. flat_map field_text (head_fields m) ∷ ls)
+      (map-append (flat_map field_text) (map (group_row m) (range 1 m.s)) (map constraint_fields (constraints_of m))
+      ∙ ap₂ (λ (a b : List (List ℕ)). a ++ b) (map-map (flat_map field_text) (group_row m) (range 1 m.s)) (map-map (flat_map field_text) constraint_fields (constraints_of m)))
 
   -- the head
 
   abbrev headed : Model
   headed = record { n = m.n; s = m.s; c = m.c; groups = zero_model.groups; constraints = zero_model.constraints }
 
-  head-accepted : line_refusal zero_model.n zero_model.s zero_model.c 0 (each field_text (head_fields m)) ≡ 0
+  head-accepted : line_refusal zero_model.n zero_model.s zero_model.c 0 (flat_map field_text (head_fields m)) ≡ 0
   unfolding line_refusal
   head-accepted = rw (head-form m r) (head_good m r)
 
-  head-told : with_line 0 zero_model (each field_text (head_fields m)) ≡ headed
+  head-told : with_line 0 zero_model (flat_map field_text (head_fields m)) ≡ headed
   unfolding with_line
   head-told = head-tells m r zero_model
 
@@ -177,7 +178,7 @@ module _ (m : Model) (w : Accurate m) where
       let gs = map group_line (range 1 m.s) in
       let cs = map constraint_line (constraints_of m) in
       ap (λ (ls : List (List ℕ)). read_lines ls 0 zero_model) text-lines
-      ∙ read-cons (each field_text (head_fields m)) (gs ++ cs) 0 zero_model head-accepted
+      ∙ read-cons (flat_map field_text (head_fields m)) (gs ++ cs) 0 zero_model head-accepted
       ∙ ap (read_lines (gs ++ cs) 1) head-told
       ∙ groups-read group_line cs m.s 0 headed (omega arith) groups-accepted
       ∙ ap₂ (λ (i : ℕ) (t : List Group). read_lines cs (suc i) (in_groups headed (sets zero_model.groups 0 t)))
@@ -189,15 +190,15 @@ module _ (m : Model) (w : Accurate m) where
   text-some : 0 < length (sheet_text m)
   unfolding sheet_text sheet_fields line_text
   text-some =
-      let head = each field_text (head_fields m) in
-      let rest = each line_text (map (group_row m) (range 1 m.s) ++ map constraint_fields (constraints_of m)) in
+      let head = flat_map field_text (head_fields m) in
+      let rest = flat_map line_text (map (group_row m) (range 1 m.s) ++ map constraint_fields (constraints_of m)) in
       omega (arith, length-append (head ++ (10 ∷ [])) rest, length-append head (10 ∷ []))
 
   text-ended : T (ends (sheet_text m))
   unfolding sheet_text line_text text_of
   text-ended =
-      subst (λ (t : List ℕ). T (ends t)) (each_map (λ l. l ++ (10 ∷ [])) (each field_text) (sheet_fields m))
-      (text-ends (map (each field_text) (sheet_fields m)))
+      subst (λ (t : List ℕ). T (ends t)) (each_map (λ l. l ++ (10 ∷ [])) (flat_map field_text) (sheet_fields m))
+      (text-ends (map (flat_map field_text) (sheet_fields m)))
 
   pub round_trip : Accepted (sheet_text m) (clean_model m)
   round_trip =

@@ -12,7 +12,8 @@ use lib.Seq.{take_all, take_at}
 use Rattle.model.specs.declared.Group.{Group}
 use Rattle.model.specs.declared.Constraint.{Constraint}
 use Rattle.model.specs.declared.Model.{Model}
-use Rattle.model.specs.Lists.{every, each, between, distinct, range}
+use Rattle.std.specs.List.{list_all, flat_map}
+use Rattle.model.specs.Lists.{between, distinct, range}
 use Rattle.model.specs.Words.{has, word_where}
 use Rattle.model.specs.Limits.{limits, groups_for}
 use Rattle.model.specs.Clauses.{member_count, groups_of}
@@ -34,11 +35,11 @@ module _ (m : Model) (r : InRange m) where
   head-short =
       (omega arith, (omega (arith, r.entrants), (omega (arith, r.group_count), (omega (arith, r.constraint_count), tt))))
 
-  pub head-form : form_refusal (each field_text (head_fields m)) ≡ 0
+  pub head-form : form_refusal (flat_map field_text (head_fields m)) ≡ 0
   unfolding head_fields
   head-form = row-form (head_fields m) head-short (omega arith)
 
-  pub head_good : head_refusal (each field_text (head_fields m)) ≡ 0
+  pub head_good : head_refusal (flat_map field_text (head_fields m)) ≡ 0
   unfolding head_refusal head_fields
   head_good =
       let v = row-value (head_fields m) head-short in
@@ -53,7 +54,7 @@ module _ (m : Model) (r : InRange m) where
         le-leb m.c limits.constraints r.constraint_count,
       )
 
-  pub head-tells : (z : Model) → with_head (each field_text (head_fields m)) z
+  pub head-tells : (z : Model) → with_head (flat_map field_text (head_fields m)) z
       ≡ record { n = m.n; s = m.s; c = m.c; groups = z.groups; constraints = z.constraints }
   unfolding with_head head_fields
   head-tells z = let v = row-value (head_fields m) head-short in rw (v 1, v 2, v 3)
@@ -116,7 +117,7 @@ module _ (n number : ℕ) (g : Group) (r : GroupRange n g) (few : n ≤ limits.e
     ),
   )
 
-  pub group-form : form_refusal (each field_text fields) ≡ 0
+  pub group-form : form_refusal (flat_map field_text fields) ≡ 0
   unfolding group_fields
   group-form = row-form fields group-short (omega arith)
 
@@ -124,18 +125,18 @@ module _ (n number : ℕ) (g : Group) (r : GroupRange n g) (few : n ≤ limits.e
   unfolding group_fields
   group-count = omega (arith, values_length (mark_of g) 0 n)
 
-  mark-at : (e : ℕ) → e < n → mark_at (each field_text fields) e ≡ mark_of g e
+  mark-at : (e : ℕ) → e < n → mark_at (flat_map field_text fields) e ≡ mark_of g e
   unfolding group_fields
   mark-at e h =
       let k : 4 + e ≡ suc (suc (suc (suc e))) = omega arith in
       row-mark fields group-short e ∙ ap (λ (i : ℕ). get_or fields i 0) k ∙ get_or-map-range (mark_of g) 0 n e 0 h ∙ ap (mark_of g) (omega arith)
 
-  pub group-good : group_refusal n number (each field_text fields) ≡ 0
+  pub group-good : group_refusal n number (flat_map field_text fields) ≡ 0
   unfolding group_refusal group_fields
   group-good =
       let v = row-value fields group-short in
-      let marks : every (λ e. leb (mark_at (each field_text fields) e) 2) (range 0 n) ≡ true =
-      T_true _ (range-every (λ e. leb (mark_at (each field_text fields) e) 2) 0 n
+      let marks : list_all (λ e. leb (mark_at (flat_map field_text fields) e) 2) (range 0 n) ≡ true =
+      T_true _ (range-every (λ e. leb (mark_at (flat_map field_text fields) e) 2) 0 n
       (λ e _ h. rw (mark-at e (omega arith), le-leb (mark_of g e) 2 (mark-small g e)) tt)) in
       rw (
         v 0,
@@ -150,14 +151,14 @@ module _ (n number : ℕ) (g : Group) (r : GroupRange n g) (few : n ≤ limits.e
         eq-eqb number number refl,
       )
 
-  pub group-tells : group_from n (each field_text fields) ≡ g
+  pub group-tells : group_from n (flat_map field_text fields) ≡ g
   unfolding group_from group_fields
   group-tells =
       let v = row-value fields group-short in
-      let fixed : word_where (λ e. eqb (mark_at (each field_text fields) e) 2) n ≡ g.fixed =
+      let fixed : word_where (λ e. eqb (mark_at (flat_map field_text fields) e) 2) n ≡ g.fixed =
       word_ext _ (has g.fixed) n (λ e h. ap (λ (x : ℕ). eqb x 2) (mark-at e h) ∙ mark-fixed g e)
       ∙ word-has g.fixed n (omega (arith, sub-le r.fits, r.small)) in
-      let possible : word_where (λ e. not (eqb (mark_at (each field_text fields) e) 0)) n ≡ g.possible =
+      let possible : word_where (λ e. not (eqb (mark_at (flat_map field_text fields) e) 0)) n ≡ g.possible =
       word_ext _ (has g.possible) n (λ e h. ap (λ (x : ℕ). not (eqb x 0)) (mark-at e h) ∙ mark-possible g r.fits e)
       ∙ word-has g.possible n r.small in
       rw (fixed, possible, v 2, v 3)
@@ -197,7 +198,7 @@ module _ (s : ℕ) (c : Constraint) (t : T (constraint_in_range s c)) (few : s �
   k = member_count c.code c.count
 
   abbrev line : List ℕ
-  line = each field_text (constraint_fields c)
+  line = flat_map field_text (constraint_fields c)
 
   short : All Short (constraint_fields c)
   short = constraint-short s c t few
@@ -294,7 +295,7 @@ module _ (s : ℕ) (c : Constraint) (t : T (constraint_in_range s c)) (few : s �
         first_group_lem,
         the_members,
         eq-eqb (cond (eqb c.code 6) 3 2 + k) (cond (eqb c.code 6) 3 2 + k) refl,
-        T_true (every (between 1 s) (groups_of c)) (groups-in s c t),
+        T_true (list_all (between 1 s) (groups_of c)) (groups-in s c t),
         T_true (distinct (groups_of c)) all-different,
       )
     where
@@ -302,4 +303,4 @@ module _ (s : ℕ) (c : Constraint) (t : T (constraint_in_range s c)) (few : s �
       first = unfold constraint_fields in refl
 
       all-different : T (distinct (groups_of c))
-      all-different = unfold constraint_in_range in and_right (code_in_range c.code c.count && every (between 1 s) (groups_of c)) (distinct (groups_of c)) t
+      all-different = unfold constraint_in_range in and_right (code_in_range c.code c.count && list_all (between 1 s) (groups_of c)) (distinct (groups_of c)) t

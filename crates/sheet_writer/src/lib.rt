@@ -2,7 +2,8 @@
 #![tactic(auto)]
 
 ghost use Rattle.std.specs.Prelude.{◌≡◌, [], ◌∷◌, ◌+◌, ◌*◌, ◌≤◌, ◌<◌, T, length, take};
-ghost use Rattle.model.specs.Lists.{every, each, range};
+ghost use Rattle.std.specs.List.{list_all, flat_map};
+ghost use Rattle.model.specs.Lists.{range};
 ghost use Rattle.model.specs.Limits.{limits};
 ghost use Rattle.model.specs.Clauses.{member_count};
 ghost use Rattle.model.specs.Model.{constraint_in_range, in_range};
@@ -23,17 +24,10 @@ fn line_length(fields: usize) -> usize
     fields * 4 + 1
 }
 
-// An array of a constraint's groups is whole.
-fn whole(ids: [u32; Model::MEMBERS])
-    ensures { length ids ≡ limits.members }
-{}
-
-fn constraint_length(c: Constraint, s: u32) -> usize
-    requires { T (constraint_in_range s c) × (s ≤ limits.groups) }
-    ensures { (result ≡ length (constraint_text c)) × (result ≤ line_length (3 + limits.members)) }
+fn constraint_length(c: &Constraint, s: u32) -> usize
+    requires { T (constraint_in_range s c.now) × (s ≤ limits.groups) }
+    ensures { (result ≡ length (constraint_text c.now)) × (result ≤ line_length (3 + limits.members)) }
 {
-    let ids = c.groups;
-    whole(ids);
     let k = range::member_count(c.code, c.count);
     if c.code == 6 {
         return line_length(3 + k);
@@ -42,48 +36,45 @@ fn constraint_length(c: Constraint, s: u32) -> usize
 }
 
 // The lines of the first c constraints.
-fn constraints_length(constraints: [Constraint; Model::CONSTRAINTS], c: usize, s: u32) -> usize
+fn constraints_length(constraints: &[Constraint; Model::CONSTRAINTS], c: usize, s: u32) -> usize
     requires c_le_constraints { (c ≤ limits.constraints) × (s ≤ limits.groups) }
-    requires t { T (every (constraint_in_range s) (take c constraints)) }
-    ensures { (result ≡ length (each constraint_text (take c constraints))) × (result ≤ c * line_length (3 + limits.members)) }
+    requires t { T (list_all (constraint_in_range s) (take c constraints.now)) }
+    ensures { (result ≡ length (flat_map constraint_text (take c constraints.now))) × (result ≤ c * line_length (3 + limits.members)) }
 {
     let mut r: usize = 0;
-    let mut j: usize = 0;
-    while j < c {
-        let x = constraints[j];
+    for x in &constraints[..c] {
         r += constraint_length(x, s);
-        j += 1;
     }
     r
 }
 
-fn sheet_length(m: Model) -> usize
-    requires { T (in_range m) }
-    ensures { result ≡ length (sheet_text m) }
+fn sheet_length(m: &Model) -> usize
+    requires { T (in_range m.now) }
+    ensures { result ≡ length (sheet_text m.now) }
 {
-    let constraints = m.constraints;
-    let lines = constraints_length(constraints, m.c as usize, m.s);
+    let lines = constraints_length(&m.constraints, m.c as usize, m.s);
     let row = line_length(4 + m.n as usize);
     line_length(4) + m.s as usize * row + lines
 }
 
 // ---- writing
 
-// Four fields.
-fn put_four(buf: &mut [u8], at: usize, a: u32, b: u32, c: u32, d: u32) -> usize
-    requires { at + length (each field_text (a ∷ b ∷ c ∷ d ∷ [])) ≤ length buf.old }
-    ensures { Wrote (each field_text (a ∷ b ∷ c ∷ d ∷ [])) at buf.old buf.new result }
+// One field after the other.
+fn put_fields(buf: &mut [u8], at: usize, fields: &[u32]) -> usize
+    requires { at + length (flat_map field_text fields.now) ≤ length buf.old }
+    ensures { Wrote (flat_map field_text fields.now) at buf.old buf.new result }
 {
-    let i = text::put_field(buf, at, a);
-    let j = text::put_field(buf, i, b);
-    let k = text::put_field(buf, j, c);
-    text::put_field(buf, k, d)
+    let mut n = at;
+    for v in fields {
+        n = text::put_field(buf, n, *v);
+    }
+    n
 }
 
 // The mark of bit e: 2 fixed, 1 open, 0 barred.
-fn mark(g: Group, e: u32) -> u32
+fn mark(g: &Group, e: u32) -> u32
     requires { e < limits.word }
-    ensures { result ≡ mark_of g e }
+    ensures { result ≡ mark_of g.now e }
 {
     if (g.fixed >> e) % 2 == 1 {
         return 2;
@@ -99,91 +90,68 @@ fn put_head(buf: &mut [u8], n: u32, s: u32, c: u32) -> usize
     requires { length (line_text (1 ∷ n ∷ s ∷ c ∷ [])) ≤ length buf.old }
     ensures { Wrote (line_text (1 ∷ n ∷ s ∷ c ∷ [])) 0 buf.old buf.new result }
 {
-    let k = put_four(buf, 0, 1, n, s, c);
-    buf[k] = 10;
+    let k = put_fields(buf, 0, &[1, n, s, c]);
+    buf[k] = b'\n';
     k + 1
 }
 
 // The marks of the bits below n.
-fn put_marks(buf: &mut [u8], at: usize, g: Group, n: u32) -> usize
+fn put_marks(buf: &mut [u8], at: usize, g: &Group, n: u32) -> usize
     requires n_le_entrants { n ≤ limits.entrants }
-    requires n_in_bounds { at + length (each (λ e. field_text (mark_of g e)) (range 0 n)) ≤ length buf.old }
-    ensures { Wrote (each (λ e. field_text (mark_of g e)) (range 0 n)) at buf.old buf.new result }
+    requires n_in_bounds { at + length (flat_map (λ e. field_text (mark_of g.now e)) (range 0 n)) ≤ length buf.old }
+    ensures { Wrote (flat_map (λ e. field_text (mark_of g.now e)) (range 0 n)) at buf.old buf.new result }
 {
     let mut k = at;
-    let mut e: u32 = 0;
-    while e < n {
+    for e in 0..n {
         k = text::put_field(buf, k, mark(g, e));
-        e += 1;
     }
     k
 }
 
-fn put_group(buf: &mut [u8], at: usize, g: Group, number: u32, n: u32) -> usize
+fn put_group(buf: &mut [u8], at: usize, g: &Group, number: u32, n: u32) -> usize
     requires n_le_entrants { n ≤ limits.entrants }
-    requires g_in_bounds { at + length (line_text (group_fields n number g)) ≤ length buf.old }
-    ensures { Wrote (line_text (group_fields n number g)) at buf.old buf.new result }
+    requires g_in_bounds { at + length (line_text (group_fields n number g.now)) ≤ length buf.old }
+    ensures { Wrote (line_text (group_fields n number g.now)) at buf.old buf.new result }
 {
-    let j = put_four(buf, at, 2, number, g.low, g.high);
+    let j = put_fields(buf, at, &[2, number, g.low, g.high]);
     let k = put_marks(buf, j, g, n);
-    buf[k] = 10;
+    buf[k] = b'\n';
     k + 1
 }
 
 // The lines of the first s groups.
-fn put_groups(buf: &mut [u8], at: usize, groups: [Group; Model::GROUPS], s: usize, n: u32) -> usize
+fn put_groups(buf: &mut [u8], at: usize, groups: &[Group; Model::GROUPS], s: usize, n: u32) -> usize
     requires n_le_entrants { (n ≤ limits.entrants) × (s ≤ limits.groups) }
-    requires s_in_bounds { at + length (each (group_text n (take s groups)) (range 1 s)) ≤ length buf.old }
-    ensures { Wrote (each (group_text n (take s groups)) (range 1 s)) at buf.old buf.new result }
+    requires s_in_bounds { at + length (flat_map (group_text n (take s groups.now)) (range 1 s)) ≤ length buf.old }
+    ensures { Wrote (flat_map (group_text n (take s groups.now)) (range 1 s)) at buf.old buf.new result }
 {
     let mut k = at;
-    let mut i: usize = 0;
-    while i < s {
-        let g = groups[i];
-        k = put_group(buf, k, g, i as u32 + 1, n);
-        i += 1;
+    for i in 0..s {
+        k = put_group(buf, k, &groups[i], i as u32 + 1, n);
     }
     k
 }
 
-// The first k of a constraint's groups.
-fn put_members(buf: &mut [u8], at: usize, ids: [u32; Model::MEMBERS], k: usize) -> usize
-    requires k_le_members { k ≤ limits.members }
-    requires ids_in_bounds { at + length (each field_text (take k ids)) ≤ length buf.old }
-    ensures { Wrote (each field_text (take k ids)) at buf.old buf.new result }
-{
-    let mut n = at;
-    let mut i: usize = 0;
-    while i < k {
-        n = text::put_field(buf, n, ids[i]);
-        i += 1;
-    }
-    n
-}
-
 // The kind, the code, and the count of code 6.
 fn put_code(buf: &mut [u8], at: usize, code: u32, count: u32) -> usize
-    requires { at + length (each field_text (code_fields code count)) ≤ length buf.old }
-    ensures { Wrote (each field_text (code_fields code count)) at buf.old buf.new result }
+    requires { at + length (flat_map field_text (code_fields code count)) ≤ length buf.old }
+    ensures { Wrote (flat_map field_text (code_fields code count)) at buf.old buf.new result }
 {
-    let i = text::put_field(buf, at, 3);
-    let j = text::put_field(buf, i, code);
     if code == 6 {
-        return text::put_field(buf, j, count);
+        return put_fields(buf, at, &[3, code, count]);
     }
-    j
+    put_fields(buf, at, &[3, code])
 }
 
-fn put_constraint(buf: &mut [u8], at: usize, c: Constraint) -> usize
-    requires count_bound { member_count c.code c.count ≤ limits.members }
-    requires c_in_bounds { at + length (constraint_text c) ≤ length buf.old }
-    ensures { Wrote (constraint_text c) at buf.old buf.new result }
+fn put_constraint(buf: &mut [u8], at: usize, c: &Constraint) -> usize
+    requires count_bound { member_count c.now.code c.now.count ≤ limits.members }
+    requires c_in_bounds { at + length (constraint_text c.now) ≤ length buf.old }
+    ensures { Wrote (constraint_text c.now) at buf.old buf.new result }
 {
-    let ids = c.groups;
     let k = range::member_count(c.code, c.count);
     let i = put_code(buf, at, c.code, c.count);
-    let j = put_members(buf, i, ids, k);
-    buf[j] = 10;
+    let j = put_fields(buf, i, &c.groups[..k]);
+    buf[j] = b'\n';
     j + 1
 }
 
@@ -191,36 +159,31 @@ fn put_constraint(buf: &mut [u8], at: usize, c: Constraint) -> usize
 fn put_constraints(
     buf: &mut [u8],
     at: usize,
-    constraints: [Constraint; Model::CONSTRAINTS],
+    constraints: &[Constraint; Model::CONSTRAINTS],
     c: usize,
     s: u32,
 ) -> usize
     requires c_le_constraints { c ≤ limits.constraints }
-    requires t { T (every (constraint_in_range s) (take c constraints)) }
-    requires constraints_in_bounds { at + length (each constraint_text (take c constraints)) ≤ length buf.old }
-    ensures { Wrote (each constraint_text (take c constraints)) at buf.old buf.new result }
+    requires t { T (list_all (constraint_in_range s) (take c constraints.now)) }
+    requires constraints_in_bounds { at + length (flat_map constraint_text (take c constraints.now)) ≤ length buf.old }
+    ensures { Wrote (flat_map constraint_text (take c constraints.now)) at buf.old buf.new result }
 {
     let mut k = at;
-    let mut j: usize = 0;
-    while j < c {
-        let x = constraints[j];
+    for x in &constraints[..c] {
         k = put_constraint(buf, k, x);
-        j += 1;
     }
     k
 }
 
 // The sheet of a model in range, at the start of buf.
-fn put_sheet(m: Model, buf: &mut [u8]) -> usize
-    requires t { T (in_range m) }
-    requires m_in_bounds { length (sheet_text m) ≤ length buf.old }
-    ensures { Wrote (sheet_text m) 0 buf.old buf.new result }
+fn put_sheet(m: &Model, buf: &mut [u8]) -> usize
+    requires t { T (in_range m.now) }
+    requires m_in_bounds { length (sheet_text m.now) ≤ length buf.old }
+    ensures { Wrote (sheet_text m.now) 0 buf.old buf.new result }
 {
-    let groups = m.groups;
-    let constraints = m.constraints;
     let i = put_head(buf, m.n, m.s, m.c);
-    let j = put_groups(buf, i, groups, m.s as usize, m.n);
-    put_constraints(buf, j, constraints, m.c as usize, m.s)
+    let j = put_groups(buf, i, &m.groups, m.s as usize, m.n);
+    put_constraints(buf, j, &m.constraints, m.c as usize, m.s)
 }
 
 // The sheet of a model in buf, from its start: refusals 20 and 24 in this order.
@@ -232,9 +195,8 @@ pub fn write_sheet(m: Model, buf: &mut [u8]) -> Written
     if !range::in_range(m) {
         return Written::Refused(20);
     }
-    if buf.len() < sheet_length(m) {
+    if buf.len() < sheet_length(&m) {
         return Written::Refused(24);
     }
-    let n = put_sheet(m, buf);
-    Written::Bytes(n)
+    Written::Bytes(put_sheet(&m, buf))
 }

@@ -11,7 +11,8 @@ use lib.ListN.{length, get_or, take, replicate, get_or-append}
 use Rattle.model.specs.declared.Group.{Group}
 use Rattle.model.specs.declared.Constraint.{Constraint}
 use Rattle.model.specs.declared.Model.{Model}
-use Rattle.model.specs.Lists.{every, total, range, between}
+use Rattle.std.specs.List.{list_all}
+use Rattle.model.specs.Lists.{total, range, between}
 use Rattle.model.specs.Limits.{limits}
 use Rattle.model.specs.Words.{full, less, size, has, word_where}
 use Rattle.model.specs.Clauses.{by_entrant, member_count, member_clauses, is_difference}
@@ -135,7 +136,7 @@ module _ (m : Model) (a : List Bool) where
 module _ (m : Model) (a : List Bool) (some : 1 ≤ m.s) where
   six-true : (x : ℕ) (c : Constraint) → T (constraint_in_range m.s c) → T (by_entrant c.code)
       → all_true a (constraint_clauses m.n (table_of m) x c)
-      ≡ every (clause_holds (closed_groups m a) c.groups (full m.n)) (member_clauses c.code c.count)
+      ≡ list_all (clause_holds (closed_groups m a) c.groups (full m.n)) (member_clauses c.code c.count)
   unfolding clauses_for
   six-true x c t six =
       let cs = member_clauses c.code c.count in
@@ -163,7 +164,7 @@ module _ (m : Model) (a : List Bool) (some : 1 ≤ m.s) where
       go : T (by_entrant c.code) ⊎ (c.code ≡ 7)
           → all_true a (constraint_clauses m.n (table_of m) x c)
           ≡ cond (is_difference c) (difference_holds a (table_of m) (closed_groups m a) m.n x c)
-          (every (clause_holds (closed_groups m a) c.groups (full m.n)) (member_clauses c.code c.count))
+          (list_all (clause_holds (closed_groups m a) c.groups (full m.n)) (member_clauses c.code c.count))
       go (inl six) = rw (six-difference (table_of m) c six) (six-true x c t six)
       go (inr seven) =
           constraint-says m a s x c t (leb→le limits.members (length c.groups) wide)
@@ -174,9 +175,9 @@ module _ (m : Model) (a : List Bool) (some : 1 ≤ m.s) where
 -- ---- the listing
 
 -- a test of n numbers from i on, and one of those from j on
-every-from : (p r : ℕ → Bool) (i j n : ℕ) → ((k : ℕ) → k < n → p (i + k) ≡ r (j + k)) → every p (range i n) ≡ every r (range j n)
+every-from : (p r : ℕ → Bool) (i j n : ℕ) → ((k : ℕ) → k < n → p (i + k) ≡ r (j + k)) → list_all p (range i n) ≡ list_all r (range j n)
 every-from p r i j n h =
-    sym (every_map (λ (b : Bool). b) p (range i n)) ∙ ap (every (λ (b : Bool). b)) (values-make p r i j n h) ∙ every_map (λ (b : Bool). b) r (range j n)
+    sym (every_map (λ (b : Bool). b) p (range i n)) ∙ ap (list_all (λ (b : Bool). b)) (values-make p r i j n h) ∙ every_map (λ (b : Bool). b) r (range j n)
 
 module _ (m : Model) (a : List Bool) (q : Settled m) where
   group_at_lem : (g : ℕ) → 1 ≤ g → g ≤ m.s → all_true a (group_clauses (table_of m) g) ≡ group_holds_at a (table_of m) (closed_groups m a) g
@@ -206,7 +207,7 @@ module _ (m : Model) (a : List Bool) (q : Settled m) where
       let at : ℕ → Bool = λ b. all_true a (clauses_by_group m b) in
       ap (all_true a) (sym (by-group-parts m q))
       ∙ every-each (clause_true a) (clauses_by_group m) (range 1 (m.s + m.c))
-      ∙ ap (every at) (range-append 1 m.s m.c)
+      ∙ ap (list_all at) (range-append 1 m.s m.c)
       ∙ every_append at (range 1 m.s) (range (1 + m.s) m.c)
       ∙ ap₂ (λ (x y : Bool). x && y)
       (every-range_ext at (group_holds_at a (table_of m) (closed_groups m a)) 1 m.s (λ g h k. rw (le-leb g m.s (omega arith)) (group_at_lem g h (omega arith))))

@@ -10,7 +10,8 @@ use lib.ListN.{length, take}
 use Rattle.model.specs.declared.Model.{Model}
 use Rattle.model.specs.declared.Reading.{Reading}
 use Rattle.model.specs.declared.Closed.{Closed}
-use Rattle.model.specs.Lists.{every, stop}
+use Rattle.std.specs.List.{list_all}
+use Rattle.model.specs.Lists.{stop}
 use Rattle.model.specs.Limits.{limits}
 use Rattle.model.specs.Model.{table_of, constraints_of, constraint_sized, Whole, in_range}
 use Rattle.model.specs.Propagate.{is_fixpoint, unsettled_or}
@@ -50,7 +51,7 @@ module _ (m : Model) (r : Reading) (values : List ℕ) where
       -- the refusals after 20 and 22
       own : close_refusal m r values
           ≡ stop (not (eqb (length values) (variable_count m))) 26
-          (stop (not (r.closed && every is_said values)) 27 (stop (not (satisfying m (assignment_of values))) 28 0))
+          (stop (not (r.closed && list_all is_said values)) 27 (stop (not (satisfying m (assignment_of values))) 28 0))
       unfolding close_refusal
       own = settled-rest m settled.0 settled.1 _
 
@@ -62,10 +63,10 @@ module _ (m : Model) (r : Reading) (values : List ℕ) where
         close-27 q p c = refused_as_lem 27 q p (own ∙ rw (← k, eq-eqb (length values) v l, c)) (λ x. omega arith)
 
         module _ (c : r.closed ≡ true) where
-          pub close-27-unsaid : (q : Closed) → q ≡ refused_closing 27 → (b : Bool) → b ≡ every is_said values → b ≡ false → q ≡ closed m r values
+          pub close-27-unsaid : (q : Closed) → q ≡ refused_closing 27 → (b : Bool) → b ≡ list_all is_said values → b ≡ false → q ≡ closed m r values
           close-27-unsaid q p b s n = refused_as_lem 27 q p (own ∙ rw (← k, eq-eqb (length values) v l, c, ← s, n)) (λ x. omega arith)
 
-          module _ (b : Bool) (s : b ≡ every is_said values) (y : b ≡ true) where
+          module _ (b : Bool) (s : b ≡ list_all is_said values) (y : b ≡ true) where
             refusal_is : close_refusal m r values ≡ cond (satisfying m (assignment_of values)) 0 28
             refusal_is = own ∙ rw (← k, eq-eqb (length values) v l, c, ← s, y) (last (satisfying m (assignment_of values)))
               where

@@ -11,7 +11,8 @@ use lib.ListN.{length, get_or, take}
 use lib.Seq.{get_or-take}
 use Rattle.model.specs.declared.Group.{Group}
 use Rattle.model.specs.declared.Constraint.{Constraint}
-use Rattle.model.specs.Lists.{every, total}
+use Rattle.std.specs.List.{list_all}
+use Rattle.model.specs.Lists.{total}
 use Rattle.model.specs.Limits.{limits}
 use Rattle.model.specs.Words.{full, less}
 use Rattle.model.specs.Clauses.{member_clauses, is_difference}
@@ -66,9 +67,9 @@ module _ (a : List Bool) (p : Bool) (o : ℕ) (d : List ℕ) (n x : ℕ) (c : Co
   pub seven-holds : c.code ≡ 7 → (b : Bool) → b ≡ difference_holds_of a p o d n x c → b ≡ clauses_hold_of a p o d n x c
   unfolding clauses_hold_of is_difference
   seven-holds h b e =
-      e ∙ sym (ap (λ (y : Bool). cond y (difference_holds_of a p o d n x c) (every (clause_holds d c.groups (full n)) (member_clauses c.code c.count))) (eq-eqb c.code 7 h))
+      e ∙ sym (ap (λ (y : Bool). cond y (difference_holds_of a p o d n x c) (list_all (clause_holds d c.groups (full n)) (member_clauses c.code c.count))) (eq-eqb c.code 7 h))
 
-  pub six-holds : (c.code ≡ 7 → ⊥) → (w : ℕ) → w ≡ full n → (b : Bool) → b ≡ every (clause_holds d c.groups w) (member_clauses c.code c.count)
+  pub six-holds : (c.code ≡ 7 → ⊥) → (w : ℕ) → w ≡ full n → (b : Bool) → b ≡ list_all (clause_holds d c.groups w) (member_clauses c.code c.count)
       → b ≡ clauses_hold_of a p o d n x c
   unfolding clauses_hold_of is_difference
   six-holds h w q b e = e ∙ rw (q, ne_eqb c.code 7 h)

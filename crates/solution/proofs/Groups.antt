@@ -9,7 +9,8 @@ use lib.ListN.{get_or, set, take, replicate}
 use lib.Seq.{set_at, append_snoc, get_or-take}
 use borrow.Author.Tests.{le-leb, lt-leb}
 use Rattle.model.specs.declared.Group.{Group}
-use Rattle.model.specs.Lists.{every, range}
+use Rattle.std.specs.List.{list_all}
+use Rattle.model.specs.Lists.{range}
 use Rattle.model.specs.Limits.{limits}
 use Rattle.model.specs.Model.{zero_group, group_at}
 use Rattle.model.specs.Totalizer.{shape}
@@ -17,7 +18,7 @@ use Rattle.model.specs.Cnf.{open_count, counted, first_variable, first_output}
 use Rattle.model.specs.Solution.{set_of}
 use Rattle.model.proofs.Words.{size-ones}
 use Rattle.model.proofs.Lists.{values-append, values_length}
-use Rattle.model.proofs.Loops.{range-goes, range-stops, range-done}
+use Rattle.model.proofs.Loops.{range-goes, range-stops}
 use Rattle.encoding_laws.specs.Division.{tree_clauses}
 use Rattle.encoding_laws.proofs.Truth.{all_true}
 use Rattle.solution.specs.Holds.{word_of, word_at, table_words, group_holds, group_holds_at}
@@ -85,20 +86,14 @@ module _ (a : List Bool) (t : List Group) (d : List ℕ) where
   holds_at i v o g b p q r e = e ∙ ap₂ (λ (g : Group) (w : ℕ). group_holds a g w v o) p (word-is d i) ∙ ap₂ (group_holds a (group_at t (1 + i)) (set_of d (1 + i))) q r
 
   abbrev pub Rest : ℕ → ℕ → Type 0
-  Rest s i = every (group_holds_at a t d) (range 1 s) ≡ every (group_holds_at a t d) (range (1 + i) (1 + s - (1 + i)))
-
-  pub rest_all : (s : ℕ) → Rest s 0
-  rest_all s = let q : s ≡ 1 + s - (1 + 0) = omega arith in ap (λ (k : ℕ). every (group_holds_at a t d) (range 1 k)) q
+  Rest s i = list_all (group_holds_at a t d) (range 1 s) ≡ list_all (group_holds_at a t d) (range (1 + i) (1 + s - (1 + i)))
 
   module _ (s i : ℕ) (inv : Rest s i) where
-    pub rest-stops : (b : Bool) → b ≡ group_holds_at a t d (1 + i) → i < s → b ≡ false → false ≡ every (group_holds_at a t d) (range 1 s)
-    rest-stops b e h f = sym (range-stops (group_holds_at a t d) (every (group_holds_at a t d) (range 1 s)) (1 + s) (1 + i) inv (omega arith) (sym e ∙ f))
+    pub rest-stops : (b : Bool) → b ≡ group_holds_at a t d (1 + i) → i < s → b ≡ false → false ≡ list_all (group_holds_at a t d) (range 1 s)
+    rest-stops b e h f = sym (range-stops (group_holds_at a t d) (list_all (group_holds_at a t d) (range 1 s)) (1 + s) (1 + i) inv (omega arith) (sym e ∙ f))
 
     pub rest_goes : (b : Bool) → b ≡ group_holds_at a t d (1 + i) → i < s → b ≡ true → Rest s (i + 1)
     rest_goes b e h f =
         let q : 1 + i + 1 ≡ 1 + (i + 1) = omega arith in
-        range-goes (group_holds_at a t d) (every (group_holds_at a t d) (range 1 s)) (1 + s) (1 + i) inv (omega arith) (sym e ∙ f)
-        ∙ ap (λ (k : ℕ). every (group_holds_at a t d) (range k (1 + s - k))) q
-
-    pub rest-done : s ≤ i → true ≡ every (group_holds_at a t d) (range 1 s)
-    rest-done h = sym (range-done (group_holds_at a t d) (every (group_holds_at a t d) (range 1 s)) (1 + s) (1 + i) inv (omega arith))
+        range-goes (group_holds_at a t d) (list_all (group_holds_at a t d) (range 1 s)) (1 + s) (1 + i) inv (omega arith) (sym e ∙ f)
+        ∙ ap (λ (k : ℕ). list_all (group_holds_at a t d) (range k (1 + s - k))) q

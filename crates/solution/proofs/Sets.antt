@@ -21,16 +21,16 @@ module _ (a : List Bool) (g : Group) (v e : ℕ) where
   in-fixed h = rw (eq-eqb (g.fixed / 2 ^ e % 2) 1 h)
 
   module _ (n : g.fixed / 2 ^ e % 2 ≡ 1 → ⊥) where
-    pub in-open : open_of g / 2 ^ e % 2 ≡ 1 → (d : ℕ) → d ≡ 2 ^ e → (b : Bool) → b ≡ truth a (v + ones (open_of g % d)) → b ≡ in_group a g v e
+    pub in-open : (o : ℕ) → o ≡ open_of g → o / 2 ^ e % 2 ≡ 1 → (d : ℕ) → d ≡ 2 ^ e → (b : Bool) → b ≡ truth a (v + ones (o % d)) → b ≡ in_group a g v e
     unfolding has bit
-    in-open h d q b k =
-        k ∙ ap (λ (x : ℕ). truth a (v + ones (open_of g % x))) q
+    in-open o p h d q b k =
+        rw p at k ∙ ap (λ (x : ℕ). truth a (v + ones (open_of g % x))) q
         ∙ ap (λ (x : ℕ). truth a (v + x)) (sym (size-ones (open_of g % 2 ^ e)))
-        ∙ rw (ne_eqb (g.fixed / 2 ^ e % 2) 1 n, eq-eqb (open_of g / 2 ^ e % 2) 1 h)
+        ∙ rw (ne_eqb (g.fixed / 2 ^ e % 2) 1 n, eq-eqb (open_of g / 2 ^ e % 2) 1 (rw p at h))
 
-    pub in-none : (open_of g / 2 ^ e % 2 ≡ 1 → ⊥) → false ≡ in_group a g v e
+    pub in-none : (o : ℕ) → o ≡ open_of g → (o / 2 ^ e % 2 ≡ 1 → ⊥) → false ≡ in_group a g v e
     unfolding has bit
-    in-none h = rw (ne_eqb (g.fixed / 2 ^ e % 2) 1 n, ne_eqb (open_of g / 2 ^ e % 2) 1 h)
+    in-none o p h = rw (ne_eqb (g.fixed / 2 ^ e % 2) 1 n, ne_eqb (open_of g / 2 ^ e % 2) 1 (rw p at h))
 
 -- one entrant more
 pub word_next : (a : List Bool) (g : Group) (v e : ℕ) → word_of (e + 1) a g v ≡ word_of e a g v + cond (in_group a g v e) (2 ^ e) 0

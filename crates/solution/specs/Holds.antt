@@ -4,7 +4,8 @@ use Rattle.std.specs.Bool.{beq}
 use Rattle.model.specs.declared.Group.{Group}
 use Rattle.model.specs.declared.Constraint.{Constraint}
 use Rattle.model.specs.declared.Closed.{Closed}
-use Rattle.model.specs.Lists.{every, total, range, between}
+use Rattle.std.specs.List.{list_all}
+use Rattle.model.specs.Lists.{total, range, between}
 use Rattle.model.specs.Words.{full, size, has, word_where}
 use Rattle.model.specs.Limits.{limits}
 use Rattle.model.specs.Clauses.{member_clauses, is_difference}
@@ -47,12 +48,12 @@ abbrev pub output_is : List Bool → ℕ → ℕ → ℕ → Bool
 output_is a o x i = beq (truth a (o + i)) (ltb i x)
 
 unfoldable pub counts_to : List Bool → ℕ → ℕ → ℕ → Bool
-counts_to a o m x = every (output_is a o x) (range 0 m)
+counts_to a o m x = list_all (output_is a o x) (range 0 m)
 
 -- the word w is within the limits, and the totalizer's tree, if there is one, holds
 unfoldable pub group_holds : List Bool → Group → ℕ → ℕ → ℕ → Bool
 group_holds a g w v o =
-    between g.low g.high (size w) && cond (counted g) (every (clause_true a) (tree_clauses (shape (open_count g)) v o)) true
+    between g.low g.high (size w) && cond (counted g) (list_all (clause_true a) (tree_clauses (shape (open_count g)) v o)) true
 
 -- group g of a table, where the words are d
 unfoldable pub group_holds_at : List Bool → List Group → List ℕ → ℕ → Bool
@@ -73,7 +74,7 @@ difference_holds a t d n x c =
 -- each clause of a constraint whose X are numbered from x on, where the words are d
 unfoldable pub constraint_holds : List Bool → List Group → List ℕ → ℕ → ℕ → Constraint → Bool
 constraint_holds a t d n x c =
-    cond (is_difference c) (difference_holds a t d n x c) (every (clause_holds d c.groups (full n)) (member_clauses c.code c.count))
+    cond (is_difference c) (difference_holds a t d n x c) (list_all (clause_holds d c.groups (full n)) (member_clauses c.code c.count))
 
 -- the same two without the table, where p is whether an entrant differs already and o who has an X
 unfoldable pub difference_holds_of : List Bool → Bool → ℕ → List ℕ → ℕ → ℕ → Constraint → Bool
@@ -83,7 +84,7 @@ difference_holds_of a p o d n x c =
 
 unfoldable pub clauses_hold_of : List Bool → Bool → ℕ → List ℕ → ℕ → ℕ → Constraint → Bool
 clauses_hold_of a p o d n x c =
-    cond (is_difference c) (difference_holds_of a p o d n x c) (every (clause_holds d c.groups (full n)) (member_clauses c.code c.count))
+    cond (is_difference c) (difference_holds_of a p o d n x c) (list_all (clause_holds d c.groups (full n)) (member_clauses c.code c.count))
 
 -- the constraint at place i
 unfoldable pub constraint_holds_at : List Bool → List Group → List Constraint → List ℕ → ℕ → ℕ → Bool
@@ -94,7 +95,7 @@ constraint_holds_at a t cs d n i =
 
 -- groups 1 to s of the table t, and the c constraints cs
 unfoldable pub clauses_hold : List Bool → List Group → List Constraint → List ℕ → ℕ → ℕ → ℕ → Bool
-clauses_hold a t cs d n s c = every (group_holds_at a t d) (range 1 s) && every (constraint_holds_at a t cs d n) (range 0 c)
+clauses_hold a t cs d n s c = list_all (group_holds_at a t d) (range 1 s) && list_all (constraint_holds_at a t cs d n) (range 0 c)
 
 -- the number and zeros
 unfoldable pub refused_closing : ℕ → Closed

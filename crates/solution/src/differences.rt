@@ -13,13 +13,13 @@ pub(crate) fn difference_holds(
     values: &[u8],
     apart: bool,
     free: u64,
-    l: Constraint,
+    l: &Constraint,
     words: &[u64; Model::GROUPS],
     n: u32,
     x: usize,
 ) -> bool
     requires { (n ≤ limits.entrants) × (x < 10000000000) }
-    ensures { result ≡ difference_holds_of (assignment_of values.now) apart free words.now n x l }
+    ensures { result ≡ difference_holds_of (assignment_of values.now) apart free words.now n x l.now }
 {
     if apart {
         return true;
@@ -30,10 +30,9 @@ pub(crate) fn difference_holds(
         low: 0,
         high: 0,
     };
-    let w = word_of(values, group, x, n);
-    let ids = l.groups;
-    let f = constraint_clauses::set_of(words, ids[0]);
-    let g = constraint_clauses::set_of(words, ids[1]);
+    let w = word_of(values, &group, x, n);
+    let f = constraint_clauses::set_of(words, l.groups[0]);
+    let g = constraint_clauses::set_of(words, l.groups[1]);
     if w == 0 {
         return false;
     }

@@ -6,7 +6,8 @@ mod differences;
 mod group_clauses;
 
 ghost use Rattle.std.specs.Prelude.{◌≡◌, ◌+◌, ◌≤◌, ◌<◌, take};
-ghost use Rattle.model.specs.Lists.{every, range};
+ghost use Rattle.std.specs.List.{list_all};
+ghost use Rattle.model.specs.Lists.{range};
 ghost use Rattle.model.specs.Limits.{limits};
 ghost use Rattle.model.specs.Cnf.{table_variables};
 ghost use Rattle.model.specs.Assignment.{is_said};
@@ -21,20 +22,11 @@ use model::{Closed, Constraint, Group, Model, Reading};
 use numbering::Numbering;
 
 // Whether every variable is said.
+#[tactic(auto, unfolding(model::specs::Assignment::is_said))]
 fn all_said(values: &[u8]) -> bool
-    ensures { result ≡ every is_said values.now }
+    ensures { result ≡ list_all is_said values.now }
 {
-    let mut i: usize = 0;
-    while i < values.len() {
-        if values[i] < 1 {
-            return false;
-        }
-        if 2 < values[i] {
-            return false;
-        }
-        i += 1;
-    }
-    true
+    values.iter().all(|b| 1 <= *b && *b <= 2)
 }
 
 // The clauses of a constraint, whose X start at x: of code 7, whether an entrant differs already, and who has an X, are told.
@@ -42,26 +34,25 @@ fn constraint_holds(
     values: &[u8],
     apart: bool,
     free: u64,
-    l: Constraint,
+    l: &Constraint,
     words: &[u64; Model::GROUPS],
     n: u32,
     x: usize,
 ) -> bool
     requires { (n ≤ limits.entrants) × (x < 10000000000) }
-    ensures { result ≡ clauses_hold_of (assignment_of values.now) apart free words.now n x l }
+    ensures { result ≡ clauses_hold_of (assignment_of values.now) apart free words.now n x l.now }
 {
     if l.code == 7 {
         return difference_holds(values, apart, free, l, words, n, x);
     }
-    let ids = l.groups;
-    constraint_clauses::constraint_holds(words, &ids, model::entrants(n), l.code, l.count)
+    constraint_clauses::constraint_holds(words, &l.groups, model::entrants(n), l.code, l.count)
 }
 
 // The clauses of the first c constraints, whose first X are given.
 fn constraints_hold(
     values: &[u8],
-    groups: [Group; Model::GROUPS],
-    constraints: [Constraint; Model::CONSTRAINTS],
+    groups: &[Group; Model::GROUPS],
+    constraints: &[Constraint; Model::CONSTRAINTS],
     differences: &[u32; Model::CONSTRAINTS],
     words: &[u64; Model::GROUPS],
     n: u32,
@@ -69,26 +60,19 @@ fn constraints_hold(
     c: usize,
 ) -> bool
     requires n_le_entrants { (n ≤ limits.entrants) × (c ≤ limits.constraints) }
-    requires differences_value { differences.now ≡ differences_from (1 + table_variables (take s groups)) (take s groups) (take c constraints) }
-    ensures { result ≡ every (constraint_holds_at (assignment_of values.now) (take s groups) (take c constraints) words.now n) (range 0 c) }
+    requires differences_value { differences.now ≡ differences_from (1 + table_variables (take s groups.now)) (take s groups.now) (take c constraints.now) }
+    ensures { result ≡ list_all (constraint_holds_at (assignment_of values.now) (take s groups.now) (take c constraints.now) words.now n) (range 0 c) }
 {
-    let mut j: usize = 0;
-    while j < c {
+    for j in 0..c {
         let l = constraints[j];
-        let ids = l.groups;
-        let a = difference::slot(ids[0]);
-        let y = groups[a];
-        let f = difference::member(y, s, ids[0]);
-        let b = difference::slot(ids[1]);
-        let z = groups[b];
-        let g = difference::member(z, s, ids[1]);
+        let f = difference::group_at(groups, s, l.groups[0]);
+        let g = difference::group_at(groups, s, l.groups[1]);
         let apart = difference::apart_of(l, f, g);
         let free = difference::differing_of(l, f, g);
         let x = wide(differences[j]);
-        if !constraint_holds(values, apart, free, l, words, n, x) {
+        if !constraint_holds(values, apart, free, &l, words, n, x) {
             return false;
         }
-        j += 1;
     }
     true
 }
@@ -96,29 +80,26 @@ fn constraints_hold(
 // Every clause of the listing.
 fn clauses_hold(
     values: &[u8],
-    groups: [Group; Model::GROUPS],
-    constraints: [Constraint; Model::CONSTRAINTS],
-    v: Numbering,
+    groups: &[Group; Model::GROUPS],
+    constraints: &[Constraint; Model::CONSTRAINTS],
+    v: &Numbering,
     words: &[u64; Model::GROUPS],
     n: u32,
     s: u32,
     c: u32,
 ) -> bool
     requires n_le_entrants { (n ≤ limits.entrants) × (s ≤ limits.groups) × (c ≤ limits.constraints) }
-    requires first_value { (v.first ≡ first_variables (take s groups)) × (v.outputs ≡ first_outputs (take s groups)) × (v.differences ≡ differences_from (1 + table_variables (take s groups)) (take s groups) (take c constraints)) }
-    ensures { result ≡ clauses_hold (assignment_of values.now) (take s groups) (take c constraints) words.now n s c }
+    requires first_value { (v.now.first ≡ first_variables (take s groups.now)) × (v.now.outputs ≡ first_outputs (take s groups.now)) × (v.now.differences ≡ differences_from (1 + table_variables (take s groups.now)) (take s groups.now) (take c constraints.now)) }
+    ensures { result ≡ clauses_hold (assignment_of values.now) (take s groups.now) (take c constraints.now) words.now n s c }
 {
-    let first = v.first;
-    let outputs = v.outputs;
-    if !groups_hold(values, groups, &first, &outputs, words, s) {
+    if !groups_hold(values, groups, &v.first, &v.outputs, words, s) {
         return false;
     }
-    let differences = v.differences;
     constraints_hold(
         values,
         groups,
         constraints,
-        &differences,
+        &v.differences,
         words,
         n,
         s as usize,
@@ -126,6 +107,7 @@ fn clauses_hold(
     )
 }
 
+#[tactic(auto, unfolding(crate::specs::Holds::refused_closing))]
 fn refused(refusal: u32) -> Closed
     ensures { result ≡ refused_closing refusal }
 {
@@ -157,9 +139,8 @@ pub fn close(m: Model, r: Reading, values: &[u8]) -> Closed
     let groups = m.groups;
     let constraints = m.constraints;
     model::whole(groups, constraints);
-    let first = v.first;
-    let found = words(values, groups, &first, m.n, m.s);
-    if !clauses_hold(values, groups, constraints, v, &found, m.n, m.s, m.c) {
+    let found = words(values, &m.groups, &v.first, m.n, m.s);
+    if !clauses_hold(values, &m.groups, &m.constraints, &v, &found, m.n, m.s, m.c) {
         return refused(28);
     }
     Closed {

@@ -1,10 +1,11 @@
 -- Laws of a constraint's members, and of arrays that are filled from the front. Assumes nothing.
-use Rattle.std.proofs.Common.{◌≡◌, ℕ, suc, ◌+◌, ◌-◌, ◌/◌, ◌%◌, ◌^◌, ◌<◌, ◌≤◌, Bool, true, false, cond, not, ◌&&◌, eqb, leb, List, [], ◌∷◌, ◌++◌, map, length, get_or, take, set, replicate, sym, refl, ap, ◌∙◌, ap₂, append_assoc, arith, length-take, take_all, le-ltb, lt-ltb, eq-eqb, ne_eqb, le-leb}
+use Rattle.std.proofs.Common.{◌≡◌, ℕ, suc, ◌+◌, ◌-◌, ◌/◌, ◌%◌, ◌^◌, ◌<◌, ◌≤◌, Bool, true, false, cond, ◌&&◌, leb, List, [], ◌∷◌, ◌++◌, map, length, get_or, take, set, replicate, sym, refl, ap, ◌∙◌, ap₂, append_assoc, arith, length-take, take_all, min, lt-ltb, eq-eqb, ne_eqb, le-leb}
 use mathlib.Core.List.{map-append}
 use borrow.Author.Tests.{lt-leb}
 use lib.Bits.{bit_and, bit_xor}
 use lib.Count.{ones}
 use lib.ListN.{length-map}
+use native.Mathlib.Decide.{dec_le}
 use lib.Seq.{set_at}
 use Rattle.model.specs.declared.Literal.TheVariants.{Pos}
 use Rattle.model.specs.declared.Term.TheVariants.{Holds, Fails, Open}
@@ -13,7 +14,7 @@ use Rattle.model.specs.Words.{less, bit, has}
 use Rattle.model.proofs.Words.{size-ones, has-past}
 use Rattle.numbering.proofs.Arrays.{next-take}
 use Rattle.terms.specs.declared.Member.{Member}
-use Rattle.terms.specs.Terms.{first_of, place_of, absent, present, member_number, number_at, is_open, number_term}
+use Rattle.terms.specs.Terms.{first_of, place_of, absent, present, member_number, number_at, number_term}
 
 -- ---- where a group stands
 
@@ -21,10 +22,6 @@ module _ (g : ℕ) where
   pub place_in : 1 ≤ g → g ≤ limits.groups → g - 1 ≡ place_of g
   unfolding place_of
   place_in h k = rw (le-leb 1 g h, le-leb g limits.groups k)
-
-  pub place_none : g ≡ 0 → 0 ≡ place_of g
-  unfolding place_of
-  place_none e = rw e
 
   pub place-past : limits.groups < g → 0 ≡ place_of g
   unfolding place_of
@@ -63,19 +60,7 @@ module _ (ns : List ℕ) (i : ℕ) where
   unfolding number_at
   number_in h = rw (lt-ltb i limits.members h)
 
-  pub number-beyond : limits.members ≤ i → present ≡ number_at ns i
-  unfolding number_at
-  number-beyond h = rw (le-ltb i limits.members h)
-
 module _ (x : ℕ) where
-  pub closed-absent : x ≡ absent → false ≡ is_open x
-  unfolding is_open
-  closed-absent e = rw e
-
-  pub open-else : (x ≡ absent → ⊥) → not (eqb x present) ≡ is_open x
-  unfolding is_open
-  open-else h = rw (ne_eqb x absent h)
-
   pub term-absent : x ≡ absent → Fails ≡ number_term x
   unfolding number_term
   term-absent e = rw e
@@ -110,3 +95,11 @@ module _ {A B : Type 0} (f : A → B) (d : B) (n : ℕ) (xs : List A) (wide : le
       let a : n - i ≡ 0 = omega arith in
       let b : n - k ≡ 0 = omega arith in
       rw (a, b) (ap (λ (b : List A). map f b ++ []) (take_all i xs (omega arith) ∙ sym (take_all k xs (omega arith))))
+
+  -- the first k, of which there are no more than n
+  pub first-least : (i k : ℕ) → i ≡ min k n → first_of f d n i xs ≡ first_of f d n k xs
+  first-least i k e =
+      elim (dec_le k n) [
+        | yes h ↦ ap (λ (m : ℕ). first_of f d n m xs) (omega (arith, e))
+        | no h ↦ first-whole i k (omega (arith, e)) (omega (arith, e))
+      ]

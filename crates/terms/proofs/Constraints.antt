@@ -6,7 +6,8 @@ use Rattle.model.specs.declared.Literal.TheVariants.{Pos, Neg}
 use Rattle.model.specs.declared.Term.TheVariants.{Holds, Fails, Open}
 use Rattle.model.specs.declared.Group.{Group}
 use Rattle.model.specs.declared.Constraint.{Constraint}
-use Rattle.model.specs.Lists.{every, each, range, between}
+use Rattle.std.specs.List.{list_all, flat_map}
+use Rattle.model.specs.Lists.{range, between}
 use Rattle.model.specs.Limits.{limits}
 use Rattle.model.specs.Words.{less, size, has}
 use Rattle.model.specs.Clauses.{by_entrant, member_clauses}
@@ -35,7 +36,7 @@ values-map {A} {B} f g d (x ∷ xs) h =
 pub first-front : {A B : Type 0} (f : A → B) (d : B) (n k : ℕ) (xs : List A) → k ≤ length xs → take k (first_of f d n k xs) ≡ map f (take k xs)
 first-front f d n k xs h = take_at (map f (take k xs)) (replicate (n - k) d) k (length-map (take k xs) f ∙ length-take k xs ∙ omega arith)
 
-number-at : (ids : List ℕ) (s k i : ℕ) → T (every (between 1 s) (take k ids)) → i < length (take k ids)
+number-at : (ids : List ℕ) (s k i : ℕ) → T (list_all (between 1 s) (take k ids)) → i < length (take k ids)
     → (1 ≤ get_or (take k ids) i 0) × (get_or (take k ids) i 0 ≤ s)
 number-at ids s k i t h = between_le 1 s (get_or (take k ids) i 0) (every-getD (between 1 s) (take k ids) 0 i t h)
 
@@ -46,7 +47,7 @@ member_is t s g first e h k n =
     let q : 1 + (g - 1) ≡ g = omega arith in
     rw (← place_in g h (omega arith), get_or-take s t (g - 1) zero_group (omega arith), variable-from (take s t) first (g - 1) (omega arith) e, q)
 
-pub members_are : (t : List Group) (first ids : List ℕ) (s k : ℕ) → first ≡ first_variables (take s t) → T (every (between 1 s) (take k ids)) → s ≤ limits.groups
+pub members_are : (t : List Group) (first ids : List ℕ) (s k : ℕ) → first ≡ first_variables (take s t) → T (list_all (between 1 s) (take k ids)) → s ≤ limits.groups
     → map (member_at t first) (take k ids) ≡ map (member_of (take s t)) (take k ids)
 members_are t first ids s k e h n =
     values-map (member_at t first) (member_of (take s t)) 0 (take k ids)
@@ -148,7 +149,7 @@ module _ (t : List Group) (small : (g : ℕ) → first_variable t g ≤ suc limi
 
       -- the first three of the array are these
       pub seven-members : (first : List ℕ) (groups : List Group) (s : ℕ) → t ≡ take s groups → first ≡ first_variables t
-          → T (every (between 1 s) (take 2 c.groups)) → s ≤ limits.groups → (ms : List Member)
+          → T (list_all (between 1 s) (take 2 c.groups)) → s ≤ limits.groups → (ms : List Member)
           → ms ≡ set (first_of (member_at groups first) no_member limits.members 2 c.groups) 2 X → take 3 ms ≡ three
       seven-members first groups s e f named many ms q =
           let r = first_of (member_at groups first) no_member limits.members 2 c.groups in
@@ -165,9 +166,9 @@ module _ (t : List Group) (small : (g : ℕ) → first_variable t g ≤ suc limi
 
 -- ---- its clauses, one after the other
 
-each-places : {A B : Type 0} (f : A → List B) (d : A) (xs : List A) → each f xs ≡ each (λ j. f (get_or xs j d)) (range 0 (length xs))
+each-places : {A B : Type 0} (f : A → List B) (d : A) (xs : List A) → flat_map f xs ≡ flat_map (λ j. f (get_or xs j d)) (range 0 (length xs))
 each-places f d xs =
-    ap (each f) (sym (places 0 xs d))
+    ap (flat_map f) (sym (places 0 xs d))
     ∙ each_map f (λ j. get_or xs (j - 0) d) (range 0 (length xs))
     ∙ each-range_ext (λ j. f (get_or xs (j - 0) d)) (λ j. f (get_or xs j d)) 0 (length xs) (λ j _ _. ap (λ (i : ℕ). f (get_or xs i d)) (omega arith))
 
@@ -187,7 +188,7 @@ module _ (x : ℕ) (t : List Group) (c : Constraint) (ms : List Member) (k : ℕ
       (values-map (term_of (constraint_term x t c e)) (literal_term (map (member_number e) ms)) (Pos 0) (clause_of c.code c.count j)
       (λ i m. literal-is (get_or (clause_of c.code c.count j) i (Pos 0)) (w.below j i l m)))
 
-  pub entrant-is : clauses_at x t c e ≡ each kept_at (range 0 (length (member_clauses c.code c.count)))
+  pub entrant-is : clauses_at x t c e ≡ flat_map kept_at (range 0 (length (member_clauses c.code c.count)))
   unfolding clauses_at clause_of
   entrant-is =
       rw clear

@@ -5,7 +5,8 @@ use Rattle.model.specs.declared.Literal.{Literal}
 use Rattle.model.specs.declared.Literal.TheVariants.{Pos, Neg}
 use Rattle.model.specs.declared.Term.{Term}
 use Rattle.model.specs.declared.Term.TheVariants.{Holds, Fails, Open}
-use Rattle.model.specs.Lists.{any, each, between}
+use Rattle.std.specs.List.{list_any, flat_map}
+use Rattle.model.specs.Lists.{between}
 use Rattle.model.specs.Limits.{limits}
 use Rattle.model.specs.Words.{less, size, has}
 use Rattle.model.specs.Clauses.{member_clauses}
@@ -91,4 +92,4 @@ pub record MembersBelow (k code count : ℕ) : Type 0 where
 
 -- a clause that is kept, and for which there is room
 unfoldable pub goes : List Term → ℕ → ℕ → Bool
-goes ts at room = not (any holds ts) && nat_le (at + (length (each term_text ts) + 2)) room
+goes ts at room = not (list_any holds ts) && nat_le (at + (length (flat_map term_text ts) + 2)) room

@@ -3,7 +3,8 @@
 
 ghost use Rattle.std.specs.Prelude.{◌≡◌, ◌+◌, ◌<◌, ◌≤◌, [], ◌∷◌, ◌++◌, length, slice_index_or, slice_set};
 ghost use Rattle.model.specs.declared.Term.TheVariants.{Fails};
-ghost use Rattle.model.specs.Lists.{every, any, each, range};
+ghost use Rattle.std.specs.List.{list_all, list_any, flat_map};
+ghost use Rattle.model.specs.Lists.{range};
 ghost use Rattle.model.specs.Limits.{limits};
 ghost use Rattle.model.specs.Totalizer.{opposite_term, holds};
 ghost use Rattle.text.specs.Put.{Wrote, placed, place_after, term_text, kept_text};
@@ -13,16 +14,15 @@ use model::{Group, Literal, Model, Term};
 
 // ---- a term
 
+#[tactic(auto, unfolding(model::specs::Totalizer::opposite))]
 pub fn opposite(t: Term) -> Term
     ensures { result ≡ opposite_term t }
 {
     match t {
         Term::Holds => Term::Fails,
         Term::Fails => Term::Holds,
-        Term::Open(l) => match l {
-            Literal::Pos(v) => Term::Open(Literal::Neg(v)),
-            Literal::Neg(v) => Term::Open(Literal::Pos(v)),
-        },
+        Term::Open(Literal::Pos(v)) => Term::Open(Literal::Neg(v)),
+        Term::Open(Literal::Neg(v)) => Term::Open(Literal::Pos(v)),
     }
 }
 
@@ -36,28 +36,24 @@ pub struct Member {
     pub first: u32,
 }
 
+#[tactic(auto, unfolding(crate::specs::Terms::place_of, model::specs::Lists::between))]
 fn place(g: u32) -> usize
     ensures { (result ≡ place_of g) × (result < limits.groups) }
 {
-    if g == 0 {
-        return 0;
+    match g as usize {
+        g @ 1..=Model::GROUPS => g - 1,
+        _ => 0,
     }
-    let i = g as usize - 1;
-    if i < Model::GROUPS {
-        return i;
-    }
-    0
 }
 
 // The first k groups of a constraint; first has each group's first variable.
 pub fn members(
-    groups: [Group; Model::GROUPS],
-    first: [u32; Model::GROUPS],
-    ids: [u32; Model::MEMBERS],
+    groups: &[Group; Model::GROUPS],
+    first: &[u32; Model::GROUPS],
+    ids: &[u32; Model::MEMBERS],
     k: usize,
 ) -> [Member; Model::MEMBERS]
-    ensures value { result ≡ first_of (member_at groups first) no_member limits.members k ids }
-    ensures ids_len { length ids ≡ limits.members }
+    ensures { result ≡ first_of (member_at groups.now first.now) no_member limits.members k ids.now }
 {
     let none = Member {
         fixed: 0,
@@ -65,11 +61,7 @@ pub fn members(
         first: 0,
     };
     let mut r = [none; Model::MEMBERS];
-    let mut i: usize = 0;
-    while i < Model::MEMBERS {
-        if k <= i {
-            return r;
-        }
+    for i in 0..k.min(Model::MEMBERS) {
         let g = place(ids[i]);
         let x = groups[g];
         r[i] = Member {
@@ -77,21 +69,20 @@ pub fn members(
             possible: x.possible,
             first: first[g],
         };
-        i += 1;
     }
     r
 }
 
 // The two groups of a code 7 constraint, and third its X: from x on, for the entrants o.
+#[tactic(auto, unfolding(crate::specs::Terms::difference_member))]
 pub fn difference_members(
-    groups: [Group; Model::GROUPS],
-    first: [u32; Model::GROUPS],
-    ids: [u32; Model::MEMBERS],
+    groups: &[Group; Model::GROUPS],
+    first: &[u32; Model::GROUPS],
+    ids: &[u32; Model::MEMBERS],
     o: u64,
     x: u32,
 ) -> [Member; Model::MEMBERS]
-    ensures value { result ≡ slice_set (first_of (member_at groups first) no_member limits.members 2 ids) 2 (difference_member x o) }
-    ensures ids_len { length ids ≡ limits.members }
+    ensures { result ≡ slice_set (first_of (member_at groups.now first.now) no_member limits.members 2 ids.now) 2 (difference_member x o) }
 {
     let mut r = members(groups, first, ids, 2);
     r[2] = Member {
@@ -104,10 +95,10 @@ pub fn difference_members(
 
 // ---- an entrant in a group, as one number
 
-// The entrant is not in the group, or it is; any other number is the variable that says so.
+// The entrant is not in the group, or it is; any other number is the variable that says so. A number, no enum: the definition `member_number` is on numbers.
 const ABSENT: u32 = 0;
 
-const PRESENT: u32 = 4294967295;
+const PRESENT: u32 = u32::MAX;
 
 // "in group g" for entrant e.
 fn member_number(m: Member, e: u32) -> u32
@@ -122,30 +113,24 @@ fn member_number(m: Member, e: u32) -> u32
     if (m.possible >> e) % 2 == 1 {
         let free = m.possible ^ (m.possible & m.fixed);
         let below = free % (1 << e);
-        return std::num::wrapping_add_u32(m.first, u64::count_ones(below));
+        return m.first.wrapping_add(below.count_ones());
     }
     ABSENT
 }
 
 // The same for each of the first k members.
-pub fn member_numbers(ms: [Member; Model::MEMBERS], k: usize, e: u32) -> [u32; Model::MEMBERS]
-    ensures value { result ≡ first_of (member_number e) absent limits.members k ms }
-    ensures ms_len { length ms ≡ limits.members }
+pub fn member_numbers(ms: &[Member; Model::MEMBERS], k: usize, e: u32) -> [u32; Model::MEMBERS]
+    ensures { result ≡ first_of (member_number e) absent limits.members k ms.now }
 {
     let mut r = [ABSENT; Model::MEMBERS];
-    let mut i: usize = 0;
-    while i < Model::MEMBERS {
-        if k <= i {
-            return r;
-        }
-        let m = ms[i];
-        r[i] = member_number(m, e);
-        i += 1;
+    for i in 0..k.min(Model::MEMBERS) {
+        r[i] = member_number(ms[i], e);
     }
     r
 }
 
 // The number of member i; one past the array is present.
+#[tactic(auto, unfolding(crate::specs::Terms::number_at))]
 fn number_at(ns: &[u32; Model::MEMBERS], i: usize) -> u32
     ensures { result ≡ number_at ns.now i }
 {
@@ -155,40 +140,35 @@ fn number_at(ns: &[u32; Model::MEMBERS], i: usize) -> u32
     PRESENT
 }
 
+#[tactic(auto, unfolding(crate::specs::Terms::is_open))]
 fn is_open(x: u32) -> bool
     ensures { result ≡ is_open x }
 {
-    if x == ABSENT {
-        return false;
-    }
-    x != PRESENT
+    x != ABSENT && x != PRESENT
 }
 
 // Whether the first k members are all open.
 pub fn all_open(ns: &[u32; Model::MEMBERS], k: usize) -> bool
-    ensures { result ≡ every (λ i. is_open (number_at ns.now i)) (range 0 k) }
+    ensures { result ≡ list_all (λ i. is_open (number_at ns.now i)) (range 0 k) }
 {
-    let mut i: usize = 0;
-    while i < k {
+    for i in 0..k {
         if !is_open(number_at(ns, i)) {
             return false;
         }
-        i += 1;
     }
     true
 }
 
 // The term that a number stands for.
+#[tactic(auto, unfolding(crate::specs::Terms::number_term))]
 fn number_term(x: u32) -> Term
     ensures { result ≡ number_term x }
 {
-    if x == ABSENT {
-        return Term::Fails;
+    match x {
+        ABSENT => Term::Fails,
+        PRESENT => Term::Holds,
+        _ => Term::Open(Literal::Pos(x)),
     }
-    if x == PRESENT {
-        return Term::Holds;
-    }
-    Term::Open(Literal::Pos(x))
 }
 
 // ---- the clauses of a constraint
@@ -204,6 +184,7 @@ fn literal_term(ns: &[u32; Model::MEMBERS], l: Literal) -> Term
 }
 
 // Term i of clause j, which has k of them; past them a term that is false, which changes no clause.
+#[tactic(auto, unfolding(crate::specs::Terms::clause_of, crate::specs::Terms::clause_terms))]
 fn clause_term(
     ns: &[u32; Model::MEMBERS],
     code: u32,
@@ -223,16 +204,13 @@ fn clause_term(
 
 // Whether a term of clause j is true.
 pub fn clause_true(ns: &[u32; Model::MEMBERS], code: u32, count: u32, j: usize) -> bool
-    ensures { result ≡ any holds (clause_terms ns.now code count j) }
+    ensures { result ≡ list_any holds (clause_terms ns.now code count j) }
 {
     let k = constraint::literal_count(code, count, j);
-    let mut i: usize = 0;
-    while i < k {
-        let t = clause_term(ns, code, count, j, k, i);
-        if text::is_true(t) {
+    for i in 0..k {
+        if text::is_true(clause_term(ns, code, count, j, k, i)) {
             return true;
         }
-        i += 1;
     }
     false
 }
@@ -254,8 +232,7 @@ fn clause_goes(
         return false;
     }
     let mut left = len - at;
-    let mut i: usize = 0;
-    while i < k {
+    for i in 0..k {
         let t = clause_term(ns, code, count, j, k, i);
         if text::is_true(t) {
             return false;
@@ -265,12 +242,8 @@ fn clause_goes(
             return false;
         }
         left -= n;
-        i += 1;
     }
-    if left < 2 {
-        return false;
-    }
-    true
+    2 <= left
 }
 
 // Clause j, none of its terms true, at the start of buf.
@@ -283,20 +256,16 @@ fn write_clause(
     k: usize,
 ) -> usize
     requires k_value { k ≡ length (clause_of code count j) }
-    requires j_in_bounds { length (each term_text (clause_terms ns.now code count j)) + 2 ≤ length buf.old }
-    ensures { Wrote ((each term_text (clause_terms ns.now code count j) ++ (48 ∷ [])) ++ (10 ∷ [])) 0 buf.old buf.new result }
+    requires j_in_bounds { length (flat_map term_text (clause_terms ns.now code count j)) + 2 ≤ length buf.old }
+    ensures { Wrote ((flat_map term_text (clause_terms ns.now code count j) ++ (48 ∷ [])) ++ (10 ∷ [])) 0 buf.old buf.new result }
 {
     let mut n: usize = 0;
-    let mut i: usize = 0;
-    while i < k {
-        let t = clause_term(ns, code, count, j, k, i);
-        n = text::put_term(buf, n, t);
-        i += 1;
+    for i in 0..k {
+        n = text::put_term(buf, n, clause_term(ns, code, count, j, k, i));
     }
-    buf[n] = 48;
-    let d = n + 1;
-    buf[d] = 10;
-    d + 1
+    buf[n] = b'0';
+    buf[n + 1] = b'\n';
+    n + 2
 }
 
 // Clause j, in the part of buf from at on: nothing where one of its terms is true.

@@ -1,7 +1,7 @@
 -- Laws of the text of a clause of which some terms are known. Assumes nothing.
 use mathlib.Core.Path.{◌≡◌, refl, ap, sym, ◌∙◌}
 use mathlib.Core.List.{List, [], ◌∷◌, ◌++◌, append_assoc, append-nil}
-use mathlib.Core.Bool.{Bool, true, false, ◌||◌}
+use mathlib.Core.Bool.{true, false}
 use Prim.Native.Nat.{ℕ, zero, suc, ◌+◌, ◌≤◌, ◌<◌}
 use lib.ListN.{length, length-append, take, get_or}
 use native.Mathlib.Numerals.{add-one}
@@ -9,7 +9,7 @@ use lib.Seq.{take_all, take-suc}
 use native.Mathlib.Omega.{arith}
 use Rattle.model.specs.declared.Term.{Term}
 use Rattle.model.specs.declared.Term.TheVariants.{Holds, Fails, Open}
-use Rattle.model.specs.Lists.{any, each}
+use Rattle.std.specs.List.{list_any, flat_map}
 use Rattle.model.specs.Totalizer.{holds, literals, keep}
 use Rattle.model.specs.Text.{literal_text, clause_text}
 use Rattle.model.proofs.Lists.{each_append}
@@ -18,37 +18,33 @@ use Rattle.text.specs.Put.{term_text, kept_text}
 -- ---- the first terms, one more at a time
 
 pub terms_next : (ts : List Term) (i : ℕ) (d : Term) → i < length ts
-    → each term_text (take (i + 1) ts) ≡ each term_text (take i ts) ++ term_text (get_or ts i d)
+    → flat_map term_text (take (i + 1) ts) ≡ flat_map term_text (take i ts) ++ term_text (get_or ts i d)
 terms_next ts i d h =
-    ap (each term_text) (ap (λ (n : ℕ). take n ts) (add-one i) ∙ take-suc ts i d h)
+    ap (flat_map term_text) (ap (λ (n : ℕ). take n ts) (add-one i) ∙ take-suc ts i d h)
     ∙ each_append term_text (take i ts) (get_or ts i d ∷ [])
-    ∙ ap (λ (l : List ℕ). each term_text (take i ts) ++ l) (append-nil (term_text (get_or ts i d)))
+    ∙ ap (λ (l : List ℕ). flat_map term_text (take i ts) ++ l) (append-nil (term_text (get_or ts i d)))
 
 pub terms_room : (ts : List Term) (i k : ℕ) (d : Term) → i < k → i < length ts
-    → length (each term_text (take i ts)) + length (term_text (get_or ts i d)) ≤ length (each term_text (take k ts))
+    → length (flat_map term_text (take i ts)) + length (term_text (get_or ts i d)) ≤ length (flat_map term_text (take k ts))
 terms_room [] i k d h n = absurd (omega arith)
 terms_room (t ∷ ts) i zero d h n = absurd (omega arith)
 terms_room (t ∷ ts) zero (suc k) d h n = rw length-append (omega arith)
 terms_room (t ∷ ts) (suc i) (suc k) d h n =
-    rw (length-append (term_text t) (each term_text (take i ts)), length-append (term_text t) (each term_text (take k ts)))
+    rw (length-append (term_text t) (flat_map term_text (take i ts)), length-append (term_text t) (flat_map term_text (take k ts)))
     (omega (arith, terms_room ts i k d (omega arith) (omega arith)))
 
 pub terms_length : (ts : List Term) (i : ℕ) (d : Term) → i < length ts
-    → length (each term_text (take (i + 1) ts)) ≡ length (each term_text (take i ts)) + length (term_text (get_or ts i d))
-terms_length ts i d h = ap length (terms_next ts i d h) ∙ length-append (each term_text (take i ts)) (term_text (get_or ts i d))
+    → length (flat_map term_text (take (i + 1) ts)) ≡ length (flat_map term_text (take i ts)) + length (term_text (get_or ts i d))
+terms_length ts i d h = ap length (terms_next ts i d h) ∙ length-append (flat_map term_text (take i ts)) (term_text (get_or ts i d))
 
-pub terms_all : (ts : List Term) (k : ℕ) → length ts ≤ k → each term_text (take k ts) ≡ each term_text ts
-terms_all ts k h = ap (each term_text) (take_all k ts h)
+pub terms_all : (ts : List Term) (k : ℕ) → length ts ≤ k → flat_map term_text (take k ts) ≡ flat_map term_text ts
+terms_all ts k h = ap (flat_map term_text) (take_all k ts h)
 
-pub last_of_three : (a b c r : Bool) → a ≡ false → b ≡ false → r ≡ c → r ≡ (a || (b || (c || false)))
-last_of_three a b true r p q e = rw (p, q) e
-last_of_three a b false r p q e = rw (p, q) e
-
-pub three-text : (x y z : Term) → each term_text (x ∷ y ∷ z ∷ []) ≡ (term_text x ++ term_text y) ++ term_text z
+pub three-text : (x y z : Term) → flat_map term_text (x ∷ y ∷ z ∷ []) ≡ (term_text x ++ term_text y) ++ term_text z
 three-text x y z =
     ap (λ (l : List ℕ). term_text x ++ (term_text y ++ l)) (append-nil (term_text z)) ∙ sym (append_assoc (term_text x) (term_text y) (term_text z))
 
-pub three-length : (x y z : Term) → length (each term_text (x ∷ y ∷ z ∷ [])) ≡ length (term_text x) + length (term_text y) + length (term_text z)
+pub three-length : (x y z : Term) → length (flat_map term_text (x ∷ y ∷ z ∷ [])) ≡ length (term_text x) + length (term_text y) + length (term_text z)
 three-length x y z =
     ap length (three-text x y z)
     ∙ length-append (term_text x ++ term_text y) (term_text z)
@@ -56,24 +52,24 @@ three-length x y z =
 
 -- ---- a clause that is kept, and one that is left out
 
-terms_text : (ts : List Term) → each literal_text (literals ts) ≡ each term_text ts
+terms_text : (ts : List Term) → flat_map literal_text (literals ts) ≡ flat_map term_text ts
 terms_text [] = refl
 terms_text (Holds ∷ ts) = terms_text ts
 terms_text (Fails ∷ ts) = terms_text ts
 terms_text (Open l ∷ ts) = ap (λ (t : List ℕ). literal_text l ++ t) (terms_text ts)
 
-pub live : (ts : List Term) → any holds ts ≡ false → kept_text ts ≡ (each term_text ts ++ 48 ∷ []) ++ 10 ∷ []
+pub live : (ts : List Term) → list_any holds ts ≡ false → kept_text ts ≡ (flat_map term_text ts ++ 48 ∷ []) ++ 10 ∷ []
 unfolding kept_text keep clause_text
 live ts p =
     rw p
-    (append-nil (each literal_text (literals ts) ++ 48 ∷ 10 ∷ [])
+    (append-nil (flat_map literal_text (literals ts) ++ 48 ∷ 10 ∷ [])
     ∙ ap (λ (l : List ℕ). l ++ 48 ∷ 10 ∷ []) (terms_text ts)
-    ∙ sym (append_assoc (each term_text ts) (48 ∷ []) (10 ∷ [])))
+    ∙ sym (append_assoc (flat_map term_text ts) (48 ∷ []) (10 ∷ [])))
 
-pub live-length : (ts : List Term) → any holds ts ≡ false → length (kept_text ts) ≡ length (each term_text ts) + 2
+pub live-length : (ts : List Term) → list_any holds ts ≡ false → length (kept_text ts) ≡ length (flat_map term_text ts) + 2
 live-length ts p = rw (live ts p) (simp length-append (omega arith))
 
-pub dead : (ts : List Term) → any holds ts ≡ true → kept_text ts ≡ []
+pub dead : (ts : List Term) → list_any holds ts ≡ true → kept_text ts ≡ []
 unfolding kept_text keep
 dead ts p = rw p
 
@@ -88,7 +84,7 @@ module _ where
   abbrev filled : List Term → List Term
   filled ts = get_or ts 0 Fails ∷ get_or ts 1 Fails ∷ get_or ts 2 Fails ∷ []
 
-  filled-any : (ts : List Term) → length ts ≤ 3 → any holds (filled ts) ≡ any holds ts
+  filled-any : (ts : List Term) → length ts ≤ 3 → list_any holds (filled ts) ≡ list_any holds ts
   filled-any [] h = refl
   filled-any (x ∷ []) h = refl
   filled-any (x ∷ y ∷ []) h = refl

@@ -7,12 +7,13 @@ use native.Mathlib.Nat.{add-zero, zero-add, add_assoc}
 use native.Mathlib.Omega.{arith}
 use native.Mathlib.Numerals.{add-one}
 use native.Mathlib.Decide.{dec_le, le_ind}
-use lib.ListN.{length, take, drop, set, length-append, length-drop, length-take, take-append-drop, drop_of_length-le}
+use lib.ListN.{length, take, drop, set, length-set, length-append, length-drop, length-take, take-append-drop, drop_of_length-le}
 use borrow.Author.Tests.{le-leb, lt-leb}
 use borrow.Rule.Slice.PartMut.{put_mid}
 use lib.Dec.{leb}
 use lib.Seq.{take_all, drop_at, take_at, drop-drop, set_split}
-use Rattle.model.specs.Lists.{each, range}
+use Rattle.std.specs.List.{flat_map}
+use Rattle.model.specs.Lists.{range}
 use Rattle.model.proofs.Lists.{each_append, range_last}
 use Rattle.text.specs.Put.{over, Wrote, placed, place_after}
 
@@ -74,6 +75,17 @@ byte b n ys h = record { next = refl; inside = omega arith; bytes = rw (set_spli
 pub snoc : {t xs ys : List ℕ} {a n : ℕ} (b : ℕ) → Wrote t a xs ys n → n < length ys → Wrote (t ++ b ∷ []) a xs (set ys n b) (n + 1)
 snoc b w h = then w (byte b _ _ h)
 
+-- two bytes, and three
+pub two : (a b n : ℕ) (ys : List ℕ) → n + 2 ≤ length ys → Wrote (a ∷ b ∷ []) n ys (set (set ys n a) (n + 1) b) (n + 2)
+two a b n ys h =
+    let w = snoc b (byte a n ys (omega arith)) (rw length-set (omega arith)) in
+    record { next = omega (arith, w.next); inside = h; bytes = w.bytes }
+
+pub three : (a b d n : ℕ) (ys : List ℕ) → n + 3 ≤ length ys → Wrote (a ∷ b ∷ d ∷ []) n ys (set (set (set ys n a) (n + 1) b) (n + 2) d) (n + 3)
+three a b d n ys h =
+    let w = snoc d (two a b n ys (omega arith)) (simp length-set (omega arith)) in
+    record { next = omega (arith, w.next); inside = h; bytes = w.bytes }
+
 pub same_text : {t s xs ys : List ℕ} {a n : ℕ} → t ≡ s → Wrote t a xs ys n → Wrote s a xs ys n
 same_text {t} {s} {xs} {ys} {a} {n} e w = rw e at w
 
@@ -101,31 +113,31 @@ nothing t xs a e =
 
 -- ---- a loop that writes f a, f (a + 1), ..
 
-pub each_last : {A : Type 0} (f : ℕ → List A) (a k : ℕ) → each f (range a (k + 1)) ≡ each f (range a k) ++ f (a + k)
+pub each_last : {A : Type 0} (f : ℕ → List A) (a k : ℕ) → flat_map f (range a (k + 1)) ≡ flat_map f (range a k) ++ f (a + k)
 each_last f a k =
-    ap (λ (n : ℕ). each f (range a n)) (add-one k)
-    ∙ ap (each f) (range_last a k)
+    ap (λ (n : ℕ). flat_map f (range a n)) (add-one k)
+    ∙ ap (flat_map f) (range_last a k)
     ∙ each_append f (range a k) ((a + k) ∷ [])
-    ∙ ap (λ l. each f (range a k) ++ l) (append-nil (f (a + k)))
+    ∙ ap (λ l. flat_map f (range a k) ++ l) (append-nil (f (a + k)))
 
 module _ (f : ℕ → List ℕ) (a : ℕ) where
-  last-length : (k : ℕ) → length (each f (range a (suc k))) ≡ length (each f (range a k)) + length (f (a + k))
+  last-length : (k : ℕ) → length (flat_map f (range a (suc k))) ≡ length (flat_map f (range a k)) + length (f (a + k))
   last-length k =
-      ap (λ (n : ℕ). length (each f (range a n))) (sym (add-one k))
+      ap (λ (n : ℕ). length (flat_map f (range a n))) (sym (add-one k))
       ∙ ap length (each_last f a k)
-      ∙ length-append (each f (range a k)) (f (a + k))
+      ∙ length-append (flat_map f (range a k)) (f (a + k))
 
-  below : (k e : ℕ) → k < e → length (each f (range a k)) + length (f (a + k)) ≤ length (each f (range a e))
+  below : (k e : ℕ) → k < e → length (flat_map f (range a k)) + length (f (a + k)) ≤ length (flat_map f (range a e))
   below k e h =
-      le_ind {n = suc k} (λ (m : ℕ). length (each f (range a k)) + length (f (a + k)) ≤ length (each f (range a m)))
+      le_ind {n = suc k} (λ (m : ℕ). length (flat_map f (range a k)) + length (f (a + k)) ≤ length (flat_map f (range a m)))
       (omega (arith, last-length k)) (λ m hm ih. omega (arith, last-length m)) e h
 
-  pub loop-turn : (k : ℕ) {xs ys zs : List ℕ} {at n m : ℕ} → Wrote (each f (range a k)) at xs ys n → Wrote (f (a + k)) n ys zs m
-      → Wrote (each f (range a (k + 1))) at xs zs m
+  pub loop-turn : (k : ℕ) {xs ys zs : List ℕ} {at n m : ℕ} → Wrote (flat_map f (range a k)) at xs ys n → Wrote (f (a + k)) n ys zs m
+      → Wrote (flat_map f (range a (k + 1))) at xs zs m
   loop-turn k v w = same_text (sym (each_last f a k)) (then v w)
 
-  pub loop-room : (k e : ℕ) {xs ys : List ℕ} {at n : ℕ} → Wrote (each f (range a k)) at xs ys n → k < e
-      → at + length (each f (range a e)) ≤ length xs → n + length (f (a + k)) ≤ length ys
+  pub loop-room : (k e : ℕ) {xs ys : List ℕ} {at n : ℕ} → Wrote (flat_map f (range a k)) at xs ys n → k < e
+      → at + length (flat_map f (range a e)) ≤ length xs → n + length (f (a + k)) ≤ length ys
   loop-room k e w h r = omega (arith, below k e h, kept w, w.next)
 
 -- the same from 0 on
@@ -133,10 +145,10 @@ module _ (f : ℕ → List ℕ) (k : ℕ) where
   at-k : f (0 + k) ≡ f k
   at-k = ap f (zero-add k)
 
-  pub turn : {xs ys zs : List ℕ} {at n m : ℕ} → Wrote (each f (range 0 k)) at xs ys n → Wrote (f k) n ys zs m
-      → Wrote (each f (range 0 (k + 1))) at xs zs m
+  pub turn : {xs ys zs : List ℕ} {at n m : ℕ} → Wrote (flat_map f (range 0 k)) at xs ys n → Wrote (f k) n ys zs m
+      → Wrote (flat_map f (range 0 (k + 1))) at xs zs m
   turn v w = loop-turn f 0 k v (same_text (sym at-k) w)
 
-  pub room : (e : ℕ) {xs ys : List ℕ} {at n : ℕ} → Wrote (each f (range 0 k)) at xs ys n → k < e
-      → at + length (each f (range 0 e)) ≤ length xs → n + length (f k) ≤ length ys
+  pub room : (e : ℕ) {xs ys : List ℕ} {at n : ℕ} → Wrote (flat_map f (range 0 k)) at xs ys n → k < e
+      → at + length (flat_map f (range 0 e)) ≤ length xs → n + length (f k) ≤ length ys
   room e w h r = omega (arith, loop-room f 0 k e w h r, ap length at-k)

@@ -2,7 +2,7 @@
 use Rattle.std.specs.Prelude.{ℕ, ◌+◌, ◌/◌, ◌%◌, ◌≤◌, ◌≡◌, cond, List, [], ◌∷◌, ◌++◌, leb, length, take, drop}
 use Rattle.model.specs.declared.Term.{Term}
 use Rattle.model.specs.declared.Term.TheVariants.{Holds, Fails, Open}
-use Rattle.model.specs.Lists.{each}
+use Rattle.std.specs.List.{flat_map}
 use Rattle.model.specs.Text.{literal_text, clause_text}
 use Rattle.model.specs.Totalizer.{keep}
 
@@ -38,4 +38,4 @@ term_text (Open l) = literal_text l
 
 -- the clause of these terms, or nothing where one of them is true
 unfoldable pub kept_text : List Term → List ℕ
-kept_text ts = each clause_text (keep ts)
+kept_text ts = flat_map clause_text (keep ts)

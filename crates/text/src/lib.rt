@@ -2,8 +2,8 @@
 // is the place that it was given.
 #![tactic(auto)]
 
-ghost use Rattle.std.specs.Prelude.{◌≡◌, [], ◌∷◌, ◌++◌, ◌+◌, ◌≤◌, ◌<◌, leb, length, replicate};
-ghost use Rattle.model.specs.Lists.{any, each};
+ghost use Rattle.std.specs.Prelude.{◌≡◌, [], ◌∷◌, ◌++◌, ◌+◌, ◌%◌, ◌≤◌, ◌<◌, leb, length, replicate};
+ghost use Rattle.std.specs.List.{list_any, flat_map};
 ghost use Rattle.model.specs.Text.{decimal, literal_text, field_text};
 ghost use Rattle.model.specs.Totalizer.{holds};
 ghost use Rattle.text.specs.Put.{Wrote, placed, place_after, last_four, term_text, kept_text};
@@ -33,13 +33,14 @@ pub fn number_length(v: u32) -> usize
 pub fn ends_within(size: usize, at: usize, len: usize) -> bool
     ensures { result ≡ leb (at + size) len }
 {
-    if len < at {
-        return false;
-    }
-    if len - at < size {
-        return false;
-    }
-    true
+    at.checked_add(size).is_some_and(|end| end <= len)
+}
+
+// The last digit of v, as a byte.
+fn digit(v: u32) -> u8
+    ensures { result ≡ 48 + v % 10 }
+{
+    b'0' + (v % 10) as u8
 }
 
 // The decimal text of v below 1,000.
@@ -49,23 +50,19 @@ fn write_small(buf: &mut [u8], at: usize, v: u32) -> usize
     ensures { Wrote (decimal v) at buf.old buf.new result }
 {
     if v < 10 {
-        buf[at] = 48 + (v % 10) as u8;
+        buf[at] = digit(v);
         return at + 1;
     }
-    let q = v / 10;
-    if q < 10 {
-        buf[at] = 48 + (q % 10) as u8;
-        let b = at + 1;
-        buf[b] = 48 + (v % 10) as u8;
-        return b + 1;
+    let tens = v / 10;
+    if tens < 10 {
+        buf[at] = digit(tens);
+        buf[at + 1] = digit(v);
+        return at + 2;
     }
-    let p = q / 10;
-    buf[at] = 48 + (p % 10) as u8;
-    let b = at + 1;
-    buf[b] = 48 + (q % 10) as u8;
-    let c = b + 1;
-    buf[c] = 48 + (v % 10) as u8;
-    c + 1
+    buf[at] = digit(tens / 10);
+    buf[at + 1] = digit(tens);
+    buf[at + 2] = digit(v);
+    at + 3
 }
 
 // The four digits of v below 10,000, as the bytes of a word: v / 100 and v % 100 side by side, then the tens of both, then four times 48 added.
@@ -80,14 +77,8 @@ fn write_four(buf: &mut [u8], at: usize, v: u32) -> usize
     let x = pairs * 103 / 1024;
     let tens = x % 16 + x / 65536 % 16 * 65536;
     let w = pairs * 256 - tens * 2559 + 808464432;
-    buf[at] = (w % 256) as u8;
-    let b = at + 1;
-    buf[b] = (w / 256 % 256) as u8;
-    let c = b + 1;
-    buf[c] = (w / 65536 % 256) as u8;
-    let d = c + 1;
-    buf[d] = (w / 16777216) as u8;
-    d + 1
+    buf[at..at + 4].copy_from_slice(&w.to_le_bytes());
+    at + 4
 }
 
 // The decimal text of v below 10,000,000.
@@ -121,20 +112,11 @@ fn write_number(buf: &mut [u8], at: usize, v: u32) -> usize
     write_four(buf, n, v % 10000)
 }
 
-// A number has at most ten digits.
-fn short_number(v: u32)
-    ensures { length (decimal v) ≤ 10 }
-{}
-
 // Whether v's digits at `at` end within `len` bytes. They are counted only where ten would not.
 fn number_fits(v: u32, at: usize, len: usize) -> bool
     ensures { result ≡ leb (at + length (decimal v)) len }
 {
-    short_number(v);
-    if ends_within(DIGITS, at, len) {
-        return true;
-    }
-    ends_within(number_length(v), at, len)
+    ends_within(DIGITS, at, len) || ends_within(number_length(v), at, len)
 }
 
 // The decimal text of v, where it fits.
@@ -155,8 +137,7 @@ pub fn is_true(t: Term) -> bool
 {
     match t {
         Term::Holds => true,
-        Term::Fails => false,
-        Term::Open(_) => false,
+        Term::Fails | Term::Open(_) => false,
     }
 }
 
@@ -165,13 +146,20 @@ pub fn term_length(t: Term) -> usize
     ensures { (result ≡ length (term_text t)) × (result ≤ 12) }
 {
     match t {
-        Term::Holds => 0,
-        Term::Fails => 0,
-        Term::Open(l) => match l {
-            Literal::Pos(v) => number_length(v) + 1,
-            Literal::Neg(v) => number_length(v) + 2,
-        },
+        Term::Holds | Term::Fails => 0,
+        Term::Open(Literal::Pos(v)) => number_length(v) + 1,
+        Term::Open(Literal::Neg(v)) => number_length(v) + 2,
     }
+}
+
+// The decimal text of v and a space.
+fn write_variable(buf: &mut [u8], at: usize, v: u32) -> usize
+    requires { at + length (decimal v) + 1 ≤ length buf.old }
+    ensures { Wrote (decimal v ++ (32 ∷ [])) at buf.old buf.new result }
+{
+    let n = write_number(buf, at, v);
+    buf[n] = b' ';
+    n + 1
 }
 
 fn write_term(buf: &mut [u8], at: usize, t: Term) -> usize
@@ -179,37 +167,31 @@ fn write_term(buf: &mut [u8], at: usize, t: Term) -> usize
     ensures { Wrote (term_text t) at buf.old buf.new result }
 {
     match t {
-        Term::Holds => at,
-        Term::Fails => at,
-        Term::Open(l) => match l {
-            Literal::Pos(v) => {
-                let n = write_number(buf, at, v);
-                buf[n] = 32;
-                n + 1
-            }
-            Literal::Neg(v) => {
-                buf[at] = 45;
-                let n = write_number(buf, at + 1, v);
-                buf[n] = 32;
-                n + 1
-            }
-        },
+        Term::Holds | Term::Fails => at,
+        Term::Open(Literal::Pos(v)) => write_variable(buf, at, v),
+        Term::Open(Literal::Neg(v)) => {
+            buf[at] = b'-';
+            write_variable(buf, at + 1, v)
+        }
     }
 }
 
 // The most bytes of a term: its digits, a minus sign and a space.
 const TERM: usize = DIGITS + 2;
 
+// A number has at most ten digits.
+fn short_number(v: u32)
+    ensures { length (decimal v) ≤ 10 }
+{}
+
+// A term has at most twelve bytes.
 fn short_term(t: Term)
     ensures { length (term_text t) ≤ 12 }
 {
     match t {
-        Term::Holds => {}
-        Term::Fails => {}
-        Term::Open(l) => match l {
-            Literal::Pos(v) => short_number(v),
-            Literal::Neg(v) => short_number(v),
-        },
+        Term::Holds | Term::Fails => {}
+        Term::Open(Literal::Pos(v)) => short_number(v),
+        Term::Open(Literal::Neg(v)) => short_number(v),
     }
 }
 
@@ -218,10 +200,7 @@ fn term_fits(t: Term, at: usize, len: usize) -> bool
     ensures { result ≡ leb (at + length (term_text t)) len }
 {
     short_term(t);
-    if ends_within(TERM, at, len) {
-        return true;
-    }
-    ends_within(term_length(t), at, len)
+    ends_within(TERM, at, len) || ends_within(term_length(t), at, len)
 }
 
 // A term, where it fits.
@@ -249,14 +228,9 @@ fn write_bytes(buf: &mut [u8], at: usize, bytes: &[u8]) -> usize
     requires { at + length bytes.now ≤ length buf.old }
     ensures { Wrote bytes.now at buf.old buf.new result }
 {
-    let mut n = at;
-    let mut i: usize = 0;
-    while i < bytes.len() {
-        buf[n] = bytes[i];
-        n += 1;
-        i += 1;
-    }
-    n
+    let end = at + bytes.len();
+    buf[at..end].copy_from_slice(bytes);
+    end
 }
 
 // Bytes as they are, where they fit.
@@ -275,14 +249,8 @@ fn write_blanks(buf: &mut [u8], at: usize, k: usize) -> usize
     requires { at + k ≤ length buf.old }
     ensures { Wrote (replicate k 32) at buf.old buf.new result }
 {
-    let mut n = at;
-    let mut i: usize = 0;
-    while i < k {
-        buf[n] = 32;
-        n += 1;
-        i += 1;
-    }
-    n
+    buf[at..at + k].fill(b' ');
+    at + k
 }
 
 // The columns of a field.
@@ -308,15 +276,9 @@ pub fn put_field(buf: &mut [u8], at: usize, v: u32) -> usize
 
 // Whether one of three terms is true.
 fn one_true(x: Term, y: Term, z: Term) -> bool
-    ensures { result ≡ any holds (x ∷ y ∷ z ∷ []) }
+    ensures { result ≡ list_any holds (x ∷ y ∷ z ∷ []) }
 {
-    if is_true(x) {
-        return true;
-    }
-    if is_true(y) {
-        return true;
-    }
-    is_true(z)
+    is_true(x) || is_true(y) || is_true(z)
 }
 
 // The most bytes of a clause of three terms.
@@ -324,33 +286,30 @@ const SHORT: usize = 38;
 
 // Whether the clause of three terms, none of them true, ends within `len` bytes. It is measured only where the longest would not.
 fn three_fits(x: Term, y: Term, z: Term, at: usize, len: usize) -> bool
-    ensures { result ≡ leb (at + (length (each term_text (x ∷ y ∷ z ∷ [])) + 2)) len }
+    ensures { result ≡ leb (at + (length (flat_map term_text (x ∷ y ∷ z ∷ [])) + 2)) len }
 {
     short_term(x);
     short_term(y);
     short_term(z);
-    if ends_within(SHORT, at, len) {
-        return true;
-    }
-    ends_within(
-        term_length(x) + term_length(y) + term_length(z) + 2,
-        at,
-        len,
-    )
+    ends_within(SHORT, at, len)
+        || ends_within(
+            term_length(x) + term_length(y) + term_length(z) + 2,
+            at,
+            len,
+        )
 }
 
 // The clause of three terms, none of them true, at the start of buf.
 fn write_three(buf: &mut [u8], x: Term, y: Term, z: Term) -> usize
-    requires { length (each term_text (x ∷ y ∷ z ∷ [])) + 2 ≤ length buf.old }
-    ensures { Wrote ((each term_text (x ∷ y ∷ z ∷ []) ++ (48 ∷ [])) ++ (10 ∷ [])) 0 buf.old buf.new result }
+    requires { length (flat_map term_text (x ∷ y ∷ z ∷ [])) + 2 ≤ length buf.old }
+    ensures { Wrote ((flat_map term_text (x ∷ y ∷ z ∷ []) ++ (48 ∷ [])) ++ (10 ∷ [])) 0 buf.old buf.new result }
 {
     let a = write_term(buf, 0, x);
     let b = write_term(buf, a, y);
     let c = write_term(buf, b, z);
-    buf[c] = 48;
-    let d = c + 1;
-    buf[d] = 10;
-    d + 1
+    buf[c] = b'0';
+    buf[c + 1] = b'\n';
+    c + 2
 }
 
 // The clause of three terms, in the part of buf from at on: nothing where one of them is true.

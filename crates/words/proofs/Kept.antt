@@ -11,7 +11,8 @@ use lib.ListN.{length, get_or, take, length-take, length-map}
 use lib.Seq.{get_or-take}
 use Rattle.model.specs.declared.Group.{Group}
 use Rattle.model.specs.declared.Constraint.{Constraint}
-use Rattle.model.specs.Lists.{range, every}
+use Rattle.std.specs.List.{list_all}
+use Rattle.model.specs.Lists.{range}
 use Rattle.model.specs.Limits.{limits}
 use Rattle.model.specs.Clauses.{member_count}
 use Rattle.model.specs.Model.{in_range, table_of, constraints_of, group_in_range, code_in_range, constraint_in_range}
@@ -37,7 +38,7 @@ module _ {A : Type 0} (f : ℕ → A) (k : ℕ) where
   place i d h = get_or-map-range f 0 k i d h ∙ ap f (zero-add i)
 
   -- a test that the first s pass
-  passes : (p : A → Bool) (s i : ℕ) → s ≤ k → i < s → T (every p (take s (map f (range 0 k)))) → T (p (f i))
+  passes : (p : A → Bool) (s i : ℕ) → s ≤ k → i < s → T (list_all p (take s (map f (range 0 k)))) → T (p (f i))
   passes p s i l h t =
       let xs = map f (range 0 k) in
       let long : length xs ≡ k = length-map (range 0 k) f ∙ range_length 0 k in
@@ -134,14 +135,6 @@ handed_over words = go (ltb (length words) model_size) refl
     go false e t = kept words t (ltb-false (length words) model_size e)
 
 -- ---- what the code finds
-
-pub number-held : (w : ℕ) → w < 4294967296 → w ≡ number w
-unfolding number
-number-held w h = rw (lt-ltb w 4294967296 h)
-
-pub number_past : (w : ℕ) → 4294967296 ≤ w → 4294967295 ≡ number w
-unfolding number
-number_past w h = rw (le-ltb w 4294967296 h)
 
 module _ (words : List ℕ) where
   pub short-model : length words < model_size → model_of [] ≡ model_from words

@@ -1,31 +1,32 @@
--- An array made from words, place by place. Assumes nothing.
-use mathlib.Core.Path.{◌≡◌, sym, ap, ◌∙◌}
+-- An array that `from_fn` made, place by place. Assumes nothing.
+use mathlib.Core.Path.{◌≡◌, refl, ap, ◌∙◌, subst}
 use mathlib.Core.List.{List, map}
-use Prim.Native.Nat.{ℕ, ◌+◌, ◌≤◌, ◌<◌}
-use native.Mathlib.Nat.{zero-add}
+use Prim.Native.Nat.{ℕ, zero, suc, ◌+◌, ◌≤◌, ◌<◌}
+use native.Mathlib.Numerals.{add-one}
 use native.Mathlib.Omega.{arith}
-use lib.ListN.{length, take, set, length-set}
-use lib.Seq.{take_all}
+use native.Mathlib.Decide.{dec_lt}
+use lib.ListN.{get_or}
+use denote.Param.Members.{Mut}
+use Rattle.std.specs.Fn.{Called}
+use Rattle.std.specs.Array.{IsFromFnResult, IsFromFnResultFrom}
+use Rattle.std.proofs.lemmas.List.FromFn.{fill_by_all}
 use Rattle.model.specs.Lists.{range}
-use Rattle.model.proofs.Lists.{range_length, range-get_or}
-use Rattle.numbering.proofs.Arrays.{fill-next}
+use Rattle.numbering.proofs.Arrays.{ranges}
 
--- k places, the first i of them filled
-pub record Filling {A : Type 0} (f : ℕ → A) (k : ℕ) (r : List A) (i : ℕ) : Type 0 where
-  pub passed : i ≤ k
-  pub whole : length r ≡ k
-  pub filled : take i r ≡ map f (take i (range 0 k))
+module _ {F B : Type 0} (g : Mut F (ℕ × Unit {0}) B) (f : ℕ → B) (c : F) (ys : List B) where
+  -- each call from c on leaves it and gives f
+  abbrev pub Gives : Type 0
+  Gives = (i : ℕ) (r : B) (q : F) → Called g c (i, tt) r q → (r ≡ f i) × (q ≡ c)
 
-module _ {A : Type 0} (f : ℕ → A) (k : ℕ) (r : List A) (i : ℕ) (h : Filling f k r i) where
-  pub filling-next : (x : A) → i < k → x ≡ f i → Filling f k (set r i x) (i + 1)
-  filling-next x l e = record {
-    passed = omega arith;
-    whole = length-set r i x ∙ h.whole;
-    filled =
-        fill-next f (range 0 k) r i 0 x (omega (arith, range_length 0 k)) (omega (arith, h.whole)) h.filled
-        (e ∙ ap f (sym (range-get_or 0 k i 0 l ∙ zero-add i)));
-  }
+  each_place : Gives → (n i k : ℕ) → IsFromFnResultFrom g c ys i n → i ≤ k → k < i + n → get_or ys k (f 0) ≡ f k
+  each_place law zero i k e l h = absurd (omega arith)
+  each_place law (suc n) i k (q, y, here, call, rest) l h =
+      at (dec_lt i k) (λ m. each_place law n (i + 1) k (subst (λ (p : F). IsFromFnResultFrom g p ys (i + 1) n) (law i y q call).1 rest) (omega arith) (omega arith))
+    where
+      at : Dec (i < k) → (i < k → get_or ys k (f 0) ≡ f k) → get_or ys k (f 0) ≡ f k
+      at (yes m) later = later m
+      at (no m) later = let e : k ≡ i = omega arith in rw e (here.1 (f 0) ∙ (law i y q call).0)
 
-  pub filling-end : k ≤ i → r ≡ map f (range 0 k)
-  filling-end l =
-      sym (take_all i r (omega (arith, h.whole))) ∙ h.filled ∙ ap (map f) (take_all i (range 0 k) (omega (arith, range_length 0 k)))
+  pub made : (n : ℕ) → Gives → IsFromFnResult g c ys n → ys ≡ map f (range 0 n)
+  made n law e =
+      fill_by_all f ys n (f 0) e.long (λ k h. each_place law n 0 k e.each (omega arith) (omega arith)) ∙ ap (map f) (ranges 0 n)

@@ -7,26 +7,21 @@ ghost use Rattle.model.specs.Limits.{limits};
 ghost use Rattle.words.specs.Words.{word_at, number_at, group_from, members_from, constraint_from, sets_from, model_of, model_from, HandedOver};
 
 use model::{Constraint, Group, Model};
+use std::array;
 
 // Word i, or 0 where it is missing.
 fn word_at(words: &[u64], i: usize) -> u64
     ensures { result ≡ word_at words.now i }
 {
-    if i < words.len() {
-        return words[i];
-    }
-    0
+    words.get(i).copied().unwrap_or(0)
 }
 
 // A number of 32 bits; a word that they do not hold is the largest of them, out of every range.
+#[tactic(auto, unfolding(crate::specs::Words::number))]
 fn number_at(words: &[u64], i: usize) -> u32
     ensures { result ≡ number_at words.now i }
 {
-    let w = word_at(words, i);
-    if w < 4294967296 {
-        return w as u32;
-    }
-    4294967295
+    u32::try_from(word_at(words, i)).unwrap_or(u32::MAX)
 }
 
 fn group_from(words: &[u64], i: usize) -> Group
@@ -42,36 +37,12 @@ fn group_from(words: &[u64], i: usize) -> Group
     }
 }
 
-fn groups_from(words: &[u64]) -> [Group; Model::GROUPS]
-    ensures { result ≡ map (group_from words.now) (range 0 limits.groups) }
-{
-    let none = Group {
-        fixed: 0,
-        possible: 0,
-        low: 0,
-        high: 0,
-    };
-    let mut groups = [none; Model::GROUPS];
-    let mut i: usize = 0;
-    while i < Model::GROUPS {
-        groups[i] = group_from(words, i);
-        i += 1;
-    }
-    groups
-}
-
 // The groups of a constraint whose words stand from `at` on.
 fn members_from(words: &[u64], at: usize) -> [u32; Model::MEMBERS]
     requires { at ≤ 65536 }
     ensures { result ≡ members_from words.now at }
 {
-    let mut members = [0u32; Model::MEMBERS];
-    let mut i: usize = 0;
-    while i < Model::MEMBERS {
-        members[i] = number_at(words, at + i);
-        i += 1;
-    }
-    members
+    array::from_fn(|i| number_at(words, at + i))
 }
 
 fn constraint_from(words: &[u64], i: usize) -> Constraint
@@ -86,34 +57,11 @@ fn constraint_from(words: &[u64], i: usize) -> Constraint
     }
 }
 
-fn constraints_from(words: &[u64]) -> [Constraint; Model::CONSTRAINTS]
-    ensures { result ≡ map (constraint_from words.now) (range 0 limits.constraints) }
-{
-    let none = Constraint {
-        code: 0,
-        count: 0,
-        groups: [0; Model::MEMBERS],
-    };
-    let mut constraints = [none; Model::CONSTRAINTS];
-    let mut i: usize = 0;
-    while i < Model::CONSTRAINTS {
-        constraints[i] = constraint_from(words, i);
-        i += 1;
-    }
-    constraints
-}
-
 // A word for each group; those past the last are not looked at.
 pub fn sets_from(words: &[u64]) -> [u64; Model::GROUPS]
     ensures { result ≡ sets_from words.now }
 {
-    let mut sets = [0u64; Model::GROUPS];
-    let mut i: usize = 0;
-    while i < Model::GROUPS {
-        sets[i] = word_at(words, i);
-        i += 1;
-    }
-    sets
+    array::from_fn(|i| word_at(words, i))
 }
 
 fn model_of(words: &[u64]) -> Model
@@ -123,18 +71,19 @@ fn model_of(words: &[u64]) -> Model
         n: number_at(words, 0),
         s: number_at(words, 1),
         c: number_at(words, 2),
-        groups: groups_from(words),
-        constraints: constraints_from(words),
+        groups: array::from_fn(|i| group_from(words, i)),
+        constraints: array::from_fn(|i| constraint_from(words, i)),
     }
 }
 
 // A model out of range, too, so that a caller can have it refused; fewer words than a model has are none.
+#[tactic(auto, unfolding(crate::specs::Words::model_from))]
 pub fn model_from(words: &[u64]) -> Model
     ensures value { result ≡ model_from words.now }
     ensures handed_over { HandedOver words.now result }
 {
     if words.len() < packing::MODEL_WORDS {
-        return model_of(&words[..0]);
+        return model_of(&[]);
     }
     model_of(words)
 }

@@ -33,12 +33,15 @@ fn print_assignment(to: Streams, values: &[u8]) {
 
 // The settled model's assignment that reads back as the groups of the text.
 fn write_back(to: Streams, m: Model, text: &[u8], values: &mut [u8]) {
-    let r = group_lines::read_groups(text, m.n, m.s);
-    if r.fault != 0 {
-        console::warn(to, report::wrong_groups(r.fault, r.line, r.number));
-        return;
-    }
-    let groups = r.groups;
+    let groups = match group_lines::read_groups(text, m.n, m.s) {
+        Ok(groups) => groups,
+        Err(wrong) => {
+            let fault = wrong.fault;
+            let told = report::wrong_groups(fault.number(), wrong.line, fault.about());
+            console::warn(to, told);
+            return;
+        }
+    };
     let refusal = filling::fill(m, &groups, values);
     if refusal != 0 {
         console::print(to, report::refused(refusal));
@@ -81,11 +84,9 @@ fn main(rt: HostRuntime) {
         err: rt.stderr(),
     };
     let mut space = console::sheet_room();
-    let opened = console::open_sheet(&rt, to.err, 1, Notice::Sheet, &mut space);
-    if !opened.good {
+    let Some(n) = console::open_sheet(&rt, to.err, 1, Notice::Sheet, &mut space) else {
         return;
-    }
-    let n = opened.length;
+    };
     let r = sheet::read_sheet(&space[..n]);
     if r.refusal != 0 {
         console::print(to, report::refused_at(r.refusal, r.line));

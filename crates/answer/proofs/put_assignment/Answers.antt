@@ -5,25 +5,16 @@ use Rattle.answer.proofs.put_assignment.Goals as goal
 pub loop-i-init : goal.loop-i-init
 loop-i-init c = at-start c.args.values.now (letter c.args.values.now c.requires.values_in_bounds c.put_bytes-start.ensures.value c.put_bytes-start.ensures.buf_after)
 
-pub overflow_cast-i : goal.overflow_cast-i
-overflow_cast-i c = omega (arith, c.requires.values_len_bound)
-
-pub overflow_add-i : goal.overflow_add-i
-overflow_add-i c = omega (arith, c.requires.values_len_bound)
-
-pub put_value_word-next-requires : goal.put_value_word-next-requires
-put_value_word-next-requires c =
+pub put_value_word-pen-requires : goal.put_value_word-pen-requires
+put_value_word-pen-requires c =
     let v = letter c.args.values.now c.requires.values_in_bounds c.put_bytes-start.ensures.value c.put_bytes-start.ensures.buf_after in
     let few = c.requires.values_len_bound in
     record { v_le_variables = (omega arith, c.loop-i.invariant.narrow); v_in_bounds = value_room c.requires.values_in_bounds v c.loop-i.invariant few c.loop-i-test.true }
 
-pub overflow_add-i-in-loop-i : goal.overflow_add-i-in-loop-i
-overflow_add-i-in-loop-i c = omega (arith, c.requires.values_len_bound)
-
 pub loop-i-preserved : goal.loop-i-preserved
 loop-i-preserved c =
     let v = letter c.args.values.now c.requires.values_in_bounds c.put_bytes-start.ensures.value c.put_bytes-start.ensures.buf_after in
-    let word = c.put_value_word-next.ensures in
+    let word = c.put_value_word-pen.ensures in
     value-next c.requires.values_in_bounds v c.loop-i.invariant c.requires.values_len_bound c.loop-i-test.true word.wrote word.column_value
 
 pub put_word-last-requires : goal.put_word-last-requires

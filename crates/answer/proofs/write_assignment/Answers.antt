@@ -1,9 +1,7 @@
 -- `write_assignment` writes to an array that holds every text, and copies what fits. Assumes nothing.
 use native.Mathlib.Omega.{arith}
-use lib.ListN.{length-take}
-use Rattle.text.proofs.Writes.{kept}
 use Rattle.answer.specs.Assignment.{assignment_text}
-use Rattle.answer.proofs.Values.{many, long, copied, with_number}
+use Rattle.answer.proofs.Values.{many, copied, with_number}
 use Rattle.answer.proofs.Assignment.{assignment-length}
 use Rattle.answer.proofs.write_assignment.Goals as goal
 
@@ -15,15 +13,7 @@ pub returns-then-values-gt-VARIABLES : goal.returns-then-values-gt-VARIABLES
 returns-then-values-gt-VARIABLES c = named (with_number _ _ _ _ (many c.args.values.now (assignment_text c.args.values.now) c.args.buf.now c.if-values-gt-VARIABLES.true))
 
 pub put_assignment-n-requires : goal.put_assignment-n-requires
-put_assignment-n-requires c = record { values_len_bound = c.if-values-gt-VARIABLES.false; values_in_bounds = omega (arith, assignment-length c.args.values.now c.if-values-gt-VARIABLES.false, c.assignment_space-all.ensures) }
-
-pub returns-then-buf-n : goal.returns-then-buf-n
-returns-then-buf-n c = named (with_number _ _ _ _ (long c.args.values.now (assignment_text c.args.values.now) c.args.buf.now c.if-values-gt-VARIABLES.false c.put_assignment-n.ensures c.if-buf-n.true))
-
-pub slice_bounds-put_bytes-end : goal.slice_bounds-put_bytes-end
-slice_bounds-put_bytes-end c =
-    let w = c.put_assignment-n in
-    simp length-take (omega (arith, w.ensures.inside, kept w.ensures))
+put_assignment-n-requires c = record { values_len_bound = c.if-values-gt-VARIABLES.false; values_in_bounds = omega (arith, assignment-length c.args.values.now c.if-values-gt-VARIABLES.false, c.space-all.ensures) }
 
 pub returns : goal.returns
-returns c = named (with_number _ _ _ _ (copied c.args.values.now (assignment_text c.args.values.now) c.args.buf.now c.if-values-gt-VARIABLES.false c.put_assignment-n.ensures _ c.if-buf-n.false c.put_bytes.ensures.buf_after))
+returns c = named (with_number _ _ _ _ (copied c.args.values.now (assignment_text c.args.values.now) c.args.buf.now c.if-values-gt-VARIABLES.false c.put_assignment-n.ensures c.copy_out.ensures.value c.copy_out.ensures.buf_after))

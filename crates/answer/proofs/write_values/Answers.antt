@@ -1,9 +1,7 @@
 -- `write_values` writes to an array that holds every text, and copies what fits. Assumes nothing.
 use native.Mathlib.Omega.{arith}
-use lib.ListN.{length-take}
-use Rattle.text.proofs.Writes.{kept}
 use Rattle.answer.specs.Values.{values_text}
-use Rattle.answer.proofs.Values.{values_length, many, long, copied, with_number}
+use Rattle.answer.proofs.Values.{values_length, many, copied, with_number}
 use Rattle.answer.proofs.write_values.Goals as goal
 
 -- the clauses by their names
@@ -14,15 +12,7 @@ pub returns-then-values-gt-VARIABLES : goal.returns-then-values-gt-VARIABLES
 returns-then-values-gt-VARIABLES c = named (with_number _ _ _ _ (many c.args.values.now (values_text c.args.values.now) c.args.buf.now c.if-values-gt-VARIABLES.true))
 
 pub put_line-n-requires : goal.put_line-n-requires
-put_line-n-requires c = record { values_len_bound = c.if-values-gt-VARIABLES.false; values_in_bounds = omega (arith, values_length c.args.values.now c.if-values-gt-VARIABLES.false, c.values_space-all.ensures) }
-
-pub returns-then-buf-n : goal.returns-then-buf-n
-returns-then-buf-n c = named (with_number _ _ _ _ (long c.args.values.now (values_text c.args.values.now) c.args.buf.now c.if-values-gt-VARIABLES.false c.put_line-n.ensures c.if-buf-n.true))
-
-pub slice_bounds-put_bytes-end : goal.slice_bounds-put_bytes-end
-slice_bounds-put_bytes-end c =
-    let w = c.put_line-n in
-    simp length-take (omega (arith, w.ensures.inside, kept w.ensures))
+put_line-n-requires c = record { values_len_bound = c.if-values-gt-VARIABLES.false; values_in_bounds = omega (arith, values_length c.args.values.now c.if-values-gt-VARIABLES.false, c.space-all.ensures) }
 
 pub returns : goal.returns
-returns c = named (with_number _ _ _ _ (copied c.args.values.now (values_text c.args.values.now) c.args.buf.now c.if-values-gt-VARIABLES.false c.put_line-n.ensures _ c.if-buf-n.false c.put_bytes.ensures.buf_after))
+returns c = named (with_number _ _ _ _ (copied c.args.values.now (values_text c.args.values.now) c.args.buf.now c.if-values-gt-VARIABLES.false c.put_line-n.ensures c.copy_out.ensures.value c.copy_out.ensures.buf_after))

@@ -1,27 +1,25 @@
-use mathlib.Core.Path.{refl, ◌∙◌}
 use native.Mathlib.Omega.{arith}
 use Rattle.answering.proofs.Lines.{at-start, line-end, line-size, goes, all_read}
 use Rattle.answering.proofs.read_lines.Goals as goal
 
 pub loop-at-init : goal.loop-at-init
-loop-at-init c = (at-start _ _, refl)
+loop-at-init c = at-start _ _
 
 pub slice_bounds-read_line-end : goal.slice_bounds-read_line-end
-slice_bounds-read_line-end c = line-size c.loop-at.invariant.0 c.loop-at-test.true _ c.line_length-len.ensures
+slice_bounds-read_line-end c = line-size c.loop-at.invariant c.loop-at-test.true _ c.line_length-len.ensures
 
 pub overflow_add-at : goal.overflow_add-at
-overflow_add-at c = omega (arith, line-end c.loop-at.invariant.0 c.loop-at-test.true _ c.line_length-len.ensures)
+overflow_add-at c = omega (arith, line-end c.loop-at.invariant c.loop-at-test.true _ c.line_length-len.ensures)
 
-pub loop-at-smaller : goal.loop-at-smaller
-loop-at-smaller c = omega (arith, c.next_line-at.ensures, c.loop-at-test.true)
+pub overflow_add-at-in-loop-at : goal.overflow_add-at-in-loop-at
+overflow_add-at-in-loop-at c = omega (arith, line-end c.loop-at.invariant c.loop-at-test.true _ c.line_length-len.ensures)
 
 pub loop-at-preserved : goal.loop-at-preserved
 loop-at-preserved c =
-    let here = c.loop-at.invariant in
-    let read = c.read_line-r in
-    (goes here.0 c.loop-at-test.true _ c.line_length-len.ensures _ read.ensures.value _ read.ensures.values_after c.next_line-at.ensures, read.auto.values ∙ here.1)
+    let read = c.read_line.ensures in
+    goes c.loop-at.invariant c.loop-at-test.true _ c.line_length-len.ensures _ read.value _ read.values_after (omega arith)
 
 pub returns : goal.returns
 returns c =
-    let both = all_read c.loop-at.invariant.0 c.loop-at-test.false in
+    let both = all_read c.loop-at.invariant c.loop-at-test.false in
     record { value = both.0; values_after = both.1 }

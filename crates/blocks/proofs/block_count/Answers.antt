@@ -1,6 +1,6 @@
 -- `block_count` is the number of the last block, or 0 for a model out of range. Assumes nothing.
 use mathlib.Core.Path.{◌≡◌, sym, ◌∙◌}
-use mathlib.Core.Bool.{Bool, true, false, cond}
+use mathlib.Core.Bool.{Bool, true, cond}
 use Prim.Native.Nat.{ℕ}
 use native.Mathlib.Omega.{arith}
 use Rattle.model.specs.Model.{in_range}
@@ -9,14 +9,8 @@ use Rattle.propagation_laws.proofs.Ranges.{in_range_lem}
 use Rattle.blocks.proofs.Groups.{last_block}
 use Rattle.blocks.proofs.block_count.Goals as goal
 
-out : (b : Bool) (k : ℕ) → b ≡ false → 0 ≡ cond b k 0
-out b k e = rw e
-
 inside : (b : Bool) (r k : ℕ) → b ≡ true → r ≡ k → r ≡ cond b k 0
 inside b r k e q = rw e q
-
-pub returns-then-not-in_range : goal.returns-then-not-in_range
-returns-then-not-in_range c = record { value = out _ _ (sym c.in_range.ensures ∙ c.if-not-in_range.true); upper_bound = omega arith }
 
 pub overflow_add-result : goal.overflow_add-result
 overflow_add-result c =

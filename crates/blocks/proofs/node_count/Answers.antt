@@ -12,12 +12,6 @@ returns-then-not-t c =
     let p = totalizer-parts g _ c.totalizer_of-t.ensures.value in
     (sym (none-nodes g (sym p.3 ∙ not-true _ c.if-not-t.true)), omega arith)
 
-pub returns-then-t-lt2 : goal.returns-then-t-lt2
-returns-then-t-lt2 c =
-    let g = c.args.g in
-    let p = totalizer-parts g _ c.totalizer_of-t.ensures.value in
-    (omega (arith, some-nodes g (sym p.3 ∙ not-false _ c.if-not-t.false), p.0, c.if-t-lt2.true), omega arith)
-
 pub returns : goal.returns
 returns c =
     let g = c.args.g in

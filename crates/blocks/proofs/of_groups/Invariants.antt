@@ -1,7 +1,7 @@
 -- `of_groups` numbers the groups' blocks. Invariant: the groups passed have their first blocks. Assumes nothing.
 use mathlib.Core.Path.{◌≡◌}
 use mathlib.Core.List.{map}
-use Prim.Native.Nat.{◌+◌, ◌-◌, ◌*◌, ◌≤◌}
+use Prim.Native.Nat.{◌+◌, ◌*◌, ◌≤◌}
 use lib.ListN.{length, take}
 use Rattle.model.specs.Lists.{total, range}
 use Rattle.model.specs.Limits.{limits}
@@ -10,8 +10,5 @@ use Rattle.blocks.proofs.of_groups.Given as goal
 
 abbrev pub invariant-loop-i : goal.invariant-loop-i
 invariant-loop-i l =
-    (l.i ≤ limits.groups) × (length l.first ≡ limits.groups) × (take l.i l.first ≡ map (first_block (take l.s l.groups)) (take l.i (range 1 limits.groups)))
+    (length l.first ≡ limits.groups) × (take l.i l.first ≡ map (first_block (take l.s l.groups)) (take l.i (range 1 limits.groups)))
     × (l.lines ≡ 1 + total nodes_of (take l.i (take l.s l.groups))) × (l.lines ≤ 1 + l.i * limits.word)
-
-abbrev pub decreases-loop-i : goal.decreases-loop-i
-decreases-loop-i l = limits.groups - l.i

@@ -6,8 +6,5 @@ use lib.ListN.{length}
 use Rattle.certificate.specs.NoDraw.{Stands}
 use Rattle.certify.proofs.read_certificate.Given as goal
 
-abbrev pub invariant-loop-turns : goal.invariant-loop-turns
-invariant-loop-turns l = ((b : List ℕ) → Stands b l.initial.t l.initial.store l.initial.index l.initial.marks → Stands b l.t l.store l.index l.marks) × (length l.store ≡ length l.initial.store) × (length l.index ≡ length l.initial.index) × (length l.marks ≡ length l.initial.marks) × (length l.piece ≡ 65536)
-
-abbrev pub decreases-loop-turns : goal.decreases-loop-turns
-decreases-loop-turns l = l.turns
+abbrev pub invariant-loop-turn : goal.invariant-loop-turn
+invariant-loop-turn l = ((b : List ℕ) → Stands b l.initial.t l.initial.store l.initial.index l.initial.marks → Stands b l.t l.store l.index l.marks) × (length l.store ≡ length l.initial.store) × (length l.index ≡ length l.initial.index) × (length l.marks ≡ length l.initial.marks) × (length l.piece ≡ 65536)

@@ -17,12 +17,12 @@ put_constraint-requires c =
     let r = p.t.0 in
     let k = c.member_count-k.ensures in
     let e = c.members-ms.ensures in
-    let six = not-seven-entrant c.args.s c.args.c r c.if-c-ne7.true in
-    let t : List Group = take c.args.s c.args.groups in
-    let enough = first-enough c.args.s _ c.args.c r k six in
-    let says = six-says c.args.s p.s_le_groups.0 c.args.groups (among_all c.args.n t p.s_le_groups.1 p.all.0) c.args.first p.all.1 c.args.c r e.ids_len _ six c.args.x _ k e.value in
-    let text = six-text c.args.x t c.args.c c.args.n _ (entrants-text c.args.x t c.args.c _ _ says (six-apart t c.args.c six) enough c.args.n p.s_le_groups.1) six in
-    record { k_le_members = (few-members c.args.s _ c.args.c r k, p.s_le_groups.1); members_below = enough; n_in_bounds = omega (arith, ap length text, p.c_in_bounds) }
+    let six = not-seven-entrant c.args.s c.args.c.now r c.if-c-ne7.true in
+    let t : List Group = take c.args.s c.args.groups.now in
+    let enough = first-enough c.args.s _ c.args.c.now r k six in
+    let says = six-says c.args.s p.s_le_groups.0 c.args.groups.now (among_all c.args.n t p.s_le_groups.1 p.all.0) c.args.first.now p.all.1 c.args.c.now r (omega arith) _ six c.args.x _ k e in
+    let text = six-text c.args.x t c.args.c.now c.args.n _ (entrants-text c.args.x t c.args.c.now _ _ says (six-apart t c.args.c.now six) enough c.args.n p.s_le_groups.1) six in
+    record { k_le_members = (few-members c.args.s _ c.args.c.now r k, p.s_le_groups.1); members_below = enough; n_in_bounds = omega (arith, ap length text, p.c_in_bounds) }
 
 pub returns-then-c-ne7 : goal.returns-then-c-ne7
 returns-then-c-ne7 c =
@@ -30,16 +30,16 @@ returns-then-c-ne7 c =
     let r = p.t.0 in
     let k = c.member_count-k.ensures in
     let e = c.members-ms.ensures in
-    let six = not-seven-entrant c.args.s c.args.c r c.if-c-ne7.true in
-    let t : List Group = take c.args.s c.args.groups in
-    let enough = first-enough c.args.s _ c.args.c r k six in
-    let says = six-says c.args.s p.s_le_groups.0 c.args.groups (among_all c.args.n t p.s_le_groups.1 p.all.0) c.args.first p.all.1 c.args.c r e.ids_len _ six c.args.x _ k e.value in
-    let text = six-text c.args.x t c.args.c c.args.n _ (entrants-text c.args.x t c.args.c _ _ says (six-apart t c.args.c six) enough c.args.n p.s_le_groups.1) six in
+    let six = not-seven-entrant c.args.s c.args.c.now r c.if-c-ne7.true in
+    let t : List Group = take c.args.s c.args.groups.now in
+    let enough = first-enough c.args.s _ c.args.c.now r k six in
+    let says = six-says c.args.s p.s_le_groups.0 c.args.groups.now (among_all c.args.n t p.s_le_groups.1 p.all.0) c.args.first.now p.all.1 c.args.c.now r (omega arith) _ six c.args.x _ k e in
+    let text = six-text c.args.x t c.args.c.now c.args.n _ (entrants-text c.args.x t c.args.c.now _ _ says (six-apart t c.args.c.now six) enough c.args.n p.s_le_groups.1) six in
     same_text (sym text) c.put_constraint.ensures
 
 pub returns-then-is_apart : goal.returns-then-is_apart
 returns-then-is_apart c =
-    same_text (sym (apart-text c.args.x (take c.args.s c.args.groups) c.args.c c.args.n c.if-c-ne7.false (sym c.is_apart.ensures ∙ c.if-is_apart.true))) (done _ _ (omega (arith, c.requires.c_in_bounds)))
+    same_text (sym (apart-text c.args.x (take c.args.s c.args.groups.now) c.args.c.now c.args.n c.if-c-ne7.false (sym c.is_apart.ensures ∙ c.if-is_apart.true))) (done _ _ (omega (arith, c.requires.c_in_bounds)))
 
 pub put_constraint-y-requires : goal.put_constraint-y-requires
 put_constraint-y-requires c =
@@ -49,11 +49,11 @@ put_constraint-y-requires c =
     let o = c.differing-o.ensures in
     let seven = c.if-c-ne7.false in
     let clear = sym c.is_apart.ensures ∙ c.if-is_apart.false in
-    let t : List Group = take c.args.s c.args.groups in
-    let enough = seven_enough c.args.c seven in
-    let says = seven-says c.args.s p.s_le_groups.0 c.args.groups (among_all c.args.n t p.s_le_groups.1 p.all.0) c.args.first p.all.1 c.args.c r e.ids_len _ seven c.args.x p.t.1
-    (omega (arith, p.t.2)) _ o e.value in
-    let size = seven-size c.args.x t c.args.c c.args.n _ (entrants-text c.args.x t c.args.c _ 3 says clear enough c.args.n p.s_le_groups.1) seven p.all.0 clear _ o in
+    let t : List Group = take c.args.s c.args.groups.now in
+    let enough = seven_enough c.args.c.now seven in
+    let says = seven-says c.args.s p.s_le_groups.0 c.args.groups.now (among_all c.args.n t p.s_le_groups.1 p.all.0) c.args.first.now p.all.1 c.args.c.now r (omega arith) _ seven c.args.x p.t.1
+    (omega (arith, p.t.2)) _ o e in
+    let size = seven-size c.args.x t c.args.c.now c.args.n _ (entrants-text c.args.x t c.args.c.now _ 3 says clear enough c.args.n p.s_le_groups.1) seven p.all.0 clear _ o in
     record { k_le_members = (omega arith, p.s_le_groups.1); members_below = enough; n_in_bounds = omega (arith, size, p.c_in_bounds) }
 
 pub put_rising-requires : goal.put_rising-requires
@@ -64,13 +64,13 @@ put_rising-requires c =
     let o = c.differing-o.ensures in
     let seven = c.if-c-ne7.false in
     let clear = sym c.is_apart.ensures ∙ c.if-is_apart.false in
-    let t : List Group = take c.args.s c.args.groups in
-    let enough = seven_enough c.args.c seven in
-    let says = seven-says c.args.s p.s_le_groups.0 c.args.groups (among_all c.args.n t p.s_le_groups.1 p.all.0) c.args.first p.all.1 c.args.c r e.ids_len _ seven c.args.x p.t.1
-    (omega (arith, p.t.2)) _ o e.value in
-    let size = seven-size c.args.x t c.args.c c.args.n _ (entrants-text c.args.x t c.args.c _ 3 says clear enough c.args.n p.s_le_groups.1) seven p.all.0 clear _ o in
+    let t : List Group = take c.args.s c.args.groups.now in
+    let enough = seven_enough c.args.c.now seven in
+    let says = seven-says c.args.s p.s_le_groups.0 c.args.groups.now (among_all c.args.n t p.s_le_groups.1 p.all.0) c.args.first.now p.all.1 c.args.c.now r (omega arith) _ seven c.args.x p.t.1
+    (omega (arith, p.t.2)) _ o e in
+    let size = seven-size c.args.x t c.args.c.now c.args.n _ (entrants-text c.args.x t c.args.c.now _ 3 says clear enough c.args.n p.s_le_groups.1) seven p.all.0 clear _ o in
     let w = c.put_constraint-y.ensures in
-    record { among = omega (arith, p.t.2, counted t c.args.c _ o); k_in_bounds = omega (arith, size, p.c_in_bounds, w.next, kept w) }
+    record { among = omega (arith, p.t.2, counted t c.args.c.now _ o); k_in_bounds = omega (arith, size, p.c_in_bounds, w.next, kept w) }
 
 pub returns : goal.returns
 returns c =
@@ -80,9 +80,9 @@ returns c =
     let o = c.differing-o.ensures in
     let seven = c.if-c-ne7.false in
     let clear = sym c.is_apart.ensures ∙ c.if-is_apart.false in
-    let t : List Group = take c.args.s c.args.groups in
-    let enough = seven_enough c.args.c seven in
-    let says = seven-says c.args.s p.s_le_groups.0 c.args.groups (among_all c.args.n t p.s_le_groups.1 p.all.0) c.args.first p.all.1 c.args.c r e.ids_len _ seven c.args.x p.t.1
-    (omega (arith, p.t.2)) _ o e.value in
-    let text = seven-text c.args.x t c.args.c c.args.n _ (entrants-text c.args.x t c.args.c _ 3 says clear enough c.args.n p.s_le_groups.1) seven p.all.0 clear _ o in
+    let t : List Group = take c.args.s c.args.groups.now in
+    let enough = seven_enough c.args.c.now seven in
+    let says = seven-says c.args.s p.s_le_groups.0 c.args.groups.now (among_all c.args.n t p.s_le_groups.1 p.all.0) c.args.first.now p.all.1 c.args.c.now r (omega arith) _ seven c.args.x p.t.1
+    (omega (arith, p.t.2)) _ o e in
+    let text = seven-text c.args.x t c.args.c.now c.args.n _ (entrants-text c.args.x t c.args.c.now _ 3 says clear enough c.args.n p.s_le_groups.1) seven p.all.0 clear _ o in
     same_text (sym text) (then c.put_constraint-y.ensures c.put_rising.ensures)

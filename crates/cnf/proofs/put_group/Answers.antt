@@ -8,17 +8,11 @@ use Rattle.cnf.proofs.Groups.{node-asks, units-ask, tree-text, nodes-are, tree-l
 use Rattle.cnf.proofs.Fits.{ran-same}
 use Rattle.cnf.proofs.put_group.Goals as goal
 
-pub overflow_sub-size : goal.overflow_sub-size
-overflow_sub-size c =
+pub overflow_sub-t : goal.overflow_sub-t
+overflow_sub-t c =
     let p = c.requires in
     let n = node-asks c.args.g c.totalizer_of-t.result c.totalizer_of-t.ensures.value c.args.v c.args.o (c.args.x - c.args.first) p.settled_among.2 p.among.0 p.among.1 in
     omega (arith, n.0)
-
-pub overflow_add-first : goal.overflow_add-first
-overflow_add-first c = let p = totalizer-parts c.args.g c.totalizer_of-t.result c.totalizer_of-t.ensures.value in omega (arith, c.totalizer_of-t.ensures.size_le_word, c.requires.g_bound.0, p.0)
-
-pub most_bytes-most-requires : goal.most_bytes-most-requires
-most_bytes-most-requires c = c.totalizer_of-t.ensures.size_le_word
 
 pub put_tree-p-requires : goal.put_tree-p-requires
 put_tree-p-requires c =
@@ -27,7 +21,7 @@ put_tree-p-requires c =
     let e = c.totalizer_of-t.ensures.value in
     let n = node-asks c.args.g t e c.args.v c.args.o (c.args.x - c.args.first) p.settled_among.2 p.among.0 p.among.1 in
     let z = (totalizer-parts c.args.g t e).0 in
-    record { le_m = (omega (arith, n.0), c.totalizer_of-t.ensures.size_le_word, n.1, n.2); low_le_m = units-ask c.args.g t e p.settled_among.0; first_le_x = (p.settled_among.1, c.least-e.ensures.2, omega (arith, z, p.g_bound.0), p.g_bound.1); no_longer = (tree-longer c.args.g t e _ c.args.v c.args.o (c.args.x - c.args.first) p.settled_among.2 c.most_bytes-most.ensures.0 p.none_longer, c.most_bytes-most.ensures.1) }
+    record { le_m = (omega (arith, n.0), c.totalizer_of-t.ensures.size_le_word, n.1, n.2); low_le_m = units-ask c.args.g t e p.settled_among.0; first_le_x = (p.settled_among.1, (omega (arith, c.min-e.ensures)), omega (arith, z, p.g_bound.0), p.g_bound.1); no_longer = (tree-longer c.args.g t e _ c.args.v c.args.o (c.args.x - c.args.first) p.settled_among.2 c.most_bytes-most.ensures.0 p.none_longer, c.most_bytes-most.ensures.1) }
 
 pub returns : goal.returns
 returns c =
@@ -35,7 +29,7 @@ returns c =
     let t = c.totalizer_of-t.result in
     let e = c.totalizer_of-t.ensures.value in
     let n = nodes-are c.args.g t e (c.args.x - c.args.first) p.settled_among.2 in record {
-      end_value = c.least-e.ensures.0 ∙ ap (λ (k : ℕ). c.args.end - (c.args.end - (c.args.first + k))) (sym n);
+      end_value = (c.min-e.ensures ∙ omega arith) ∙ ap (λ (k : ℕ). c.args.end - (c.args.end - (c.args.first + k))) (sym n);
       ran = ran-same (λ i. tree_text t.size c.args.v c.args.o t.low t.high (i - c.args.first)) (λ i. group_block_text c.args.g c.args.v c.args.o (i - c.args.first))
           (λ i g h. tree-text c.args.g t e c.args.v c.args.o (i - c.args.first)) c.put_tree-p.ensures;
     }

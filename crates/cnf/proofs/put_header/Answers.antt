@@ -9,8 +9,8 @@ use Rattle.cnf.proofs.put_header.Goals as goal
 
 pub returns : goal.returns
 returns c =
-    let m = c.args.m in
-    let v = variables-is m c.args.v c.requires.settled.1 in
+    let m = c.args.m.now in
+    let v = variables-is m c.args.v.now c.requires.settled.1 in
     let n = c.clause_count-c.ensures ∙ settled-listed m c.requires.settled.0 in
     let room = c.requires.m_in_bounds in
     let size = header-length m _ _ v n in

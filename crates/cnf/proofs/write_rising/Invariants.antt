@@ -1,8 +1,9 @@
 -- `write_rising` writes a clause of variables one after the other. Invariant: those up to i are written. Assumes nothing.
 use mathlib.Core.List.{List}
-use Prim.Native.Nat.{ℕ, ◌-◌, ◌≤◌}
+use Prim.Native.Nat.{ℕ}
 use Rattle.model.specs.declared.Literal.TheVariants.{Pos}
-use Rattle.model.specs.Lists.{each, range}
+use Rattle.std.specs.List.{flat_map}
+use Rattle.model.specs.Lists.{range}
 use Rattle.model.specs.Text.{literal_text}
 use Rattle.text.specs.Put.{Wrote}
 use Rattle.cnf.proofs.write_rising.Given as goal
@@ -11,7 +12,4 @@ abbrev pub text : ℕ → List ℕ
 text v = literal_text (Pos v)
 
 abbrev pub invariant-loop-i : goal.invariant-loop-i
-invariant-loop-i l = (l.i ≤ l.k) × Wrote (each text (range l.x l.i)) 0 l.initial.buf l.buf l.n
-
-abbrev pub decreases-loop-i : goal.decreases-loop-i
-decreases-loop-i l = l.k - l.i
+invariant-loop-i l = Wrote (flat_map text (range l.x l.i)) 0 l.initial.buf l.buf l.n

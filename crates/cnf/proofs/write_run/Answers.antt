@@ -4,7 +4,7 @@ use Prim.Native.Nat.{◌-◌, ◌≤◌, ◌<◌}
 use native.Mathlib.Omega.{arith}
 use lib.ListN.{length, get_or, take}
 use Rattle.model.specs.declared.Constraint.{Constraint}
-use Rattle.model.specs.Lists.{each}
+use Rattle.std.specs.List.{flat_map}
 use Rattle.model.specs.Model.{zero_group}
 use Rattle.model.specs.Cnf.{constraint_clauses, node_blocks, block_count}
 use Rattle.model.specs.Text.{clause_text, header_text}
@@ -15,7 +15,7 @@ use Rattle.counts.proofs.Settled.{groups-few, entrants-few, constraints-few, tab
 use Rattle.text.proofs.Writes.{kept, same_text}
 use Rattle.cnf.proofs.Settled.{lines_are, blocks-most, header-block, first-length, first_one, here-settled, here-among, here-longer, here-few, place-in-model, here-in-range, x-some, x-among, here-block}
 use Rattle.cnf.proofs.Entry.{does-fit, does-not-fit}
-use Rattle.cnf.proofs.Runs.{stopped-start, stopped-on, stopped-short, stopped-run, stopped-run-short, group-last, group-run, stopped-answer, first-answer, stopped-buffer}
+use Rattle.cnf.proofs.Runs.{stopped-on, stopped-short, stopped-run, stopped-run-short, group-last, group-run, stopped-answer, first-answer, stopped-buffer}
 use Rattle.cnf.proofs.write_run.Goals as goal
 
 -- what stands for a constraint that the array does not have
@@ -23,78 +23,30 @@ abbrev none : Constraint
 none = record { code = 0; count = 0; groups = [] }
 
 pub overflow_add-stop : goal.overflow_add-stop
-overflow_add-stop c = omega (arith, blocks-most c.args.m c.requires.0, c.requires.2)
-
-pub loop-x-init : goal.loop-x-init
-loop-x-init c = stopped-start c.args.m c.args.b c.args.end _ c.requires.1
-
-pub overflow_sub-left : goal.overflow_sub-left
-overflow_sub-left c = omega (arith, kept c.loop-x.invariant.going.wrote, c.loop-x.invariant.going.wrote.inside)
-
-pub header_fits-requires : goal.header_fits-requires
-header_fits-requires c = (c.requires.0, c.of_model-v.ensures)
-
-pub put_header-at-requires : goal.put_header-at-requires
-put_header-at-requires c =
-    let w = c.loop-x.invariant.going.wrote in
-    let l = does-fit (header_text c.args.m) _ c.header_fits.ensures c.if-header_fits.true in
-    record { settled = (c.requires.0, c.of_model-v.ensures); m_in_bounds = omega (arith, l, kept w, w.inside) }
-
-pub overflow_add-x : goal.overflow_add-x
-overflow_add-x c = omega (arith, blocks-most c.args.m c.requires.0, c.requires.2, c.loop-x.invariant.short, c.loop-x-test.true)
-
-pub loop-x-smaller-then-header_fits : goal.loop-x-smaller-then-header_fits
-loop-x-smaller-then-header_fits c = omega (arith, c.loop-x-test.true)
+overflow_add-stop c = omega (arith, blocks-most c.args.m.now c.requires.0, c.requires.2)
 
 pub loop-x-preserved-then-header_fits : goal.loop-x-preserved-then-header_fits
 loop-x-preserved-then-header_fits c =
-    stopped-on c.args.m c.args.b c.args.end _ _ _ _ _ c.loop-x.invariant c.loop-x-test.true c.requires.0 c.requires.2 _ _
-    (same_text (header-block c.args.m c.requires.0 c.loop-x.x c.if-x-eq0.true) c.put_header-at.ensures)
-
-pub loop-x-smaller-else-header_fits : goal.loop-x-smaller-else-header_fits
-loop-x-smaller-else-header_fits c = omega (arith, c.loop-x-test.true)
+    stopped-on c.args.m.now c.args.b c.args.end _ _ _ _ _ c.loop-x.invariant c.loop-x-test.true c.requires.0 c.requires.2 _ _
+    (same_text (header-block c.args.m.now c.requires.0 c.loop-x.x c.if-x-eq0.true) c.put_header-at.ensures)
 
 pub loop-x-preserved-else-header_fits : goal.loop-x-preserved-else-header_fits
 loop-x-preserved-else-header_fits c =
-    let l = does-not-fit (header_text c.args.m) _ c.header_fits.ensures c.if-header_fits.false in
-    stopped-short c.args.m c.args.b c.args.end _ _ _ _ _ c.loop-x.invariant c.loop-x-test.true
-    (omega (arith, l, ap length (header-block c.args.m c.requires.0 c.loop-x.x c.if-x-eq0.true)))
+    let l = does-not-fit (header_text c.args.m.now) _ c.header_fits.ensures c.if-header_fits.false in
+    stopped-short c.args.m.now c.args.b c.args.end _ _ _ _ _ c.loop-x.invariant c.loop-x-test.true
+    (omega (arith, l, ap length (header-block c.args.m.now c.requires.0 c.loop-x.x c.if-x-eq0.true)))
 
 pub group_of-i-requires : goal.group_of-i-requires
 group_of-i-requires c =
-    let m = c.args.m in
+    let m = c.args.m.now in
     let q = c.requires.0 in
     let e = c.of_groups-d.ensures.0 in
     ((in_range_lem m q.in_range_lem).some-group, groups-few m q, first-length m q _ e, omega (arith, first_one m q _ e, c.if-x-eq0.false))
 
-pub offset_bounds-groups-i : goal.offset_bounds-groups-i
-offset_bounds-groups-i c = omega (arith, c.group_of-i.ensures.0, groups-few c.args.m c.requires.0)
-
-pub bounds-groups-i : goal.bounds-groups-i
-bounds-groups-i c = omega (arith, c.group_of-i.ensures.0, groups-few c.args.m c.requires.0)
-
-pub offset_bounds-v-i : goal.offset_bounds-v-i
-offset_bounds-v-i c = omega (arith, c.group_of-i.ensures.0, groups-few c.args.m c.requires.0)
-
-pub bounds-v-i : goal.bounds-v-i
-bounds-v-i c = omega (arith, c.group_of-i.ensures.0, groups-few c.args.m c.requires.0)
-
-pub offset_bounds-first-i : goal.offset_bounds-first-i
-offset_bounds-first-i c = omega (arith, c.group_of-i.ensures.0, groups-few c.args.m c.requires.0)
-
-pub bounds-first-i : goal.bounds-first-i
-bounds-first-i c = omega (arith, c.group_of-i.ensures.0, groups-few c.args.m c.requires.0)
-
-pub offset_bounds-numbers-i : goal.offset_bounds-numbers-i
-offset_bounds-numbers-i c = omega (arith, c.group_of-i.ensures.0, groups-few c.args.m c.requires.0)
-
-pub bounds-numbers-i : goal.bounds-numbers-i
-bounds-numbers-i c = omega (arith, c.group_of-i.ensures.0, groups-few c.args.m c.requires.0)
-
 pub put_group-p-requires : goal.put_group-p-requires
 unfolding zero_group
 put_group-p-requires c =
-    let m = c.args.m in
+    let m = c.args.m.now in
     let q = c.requires.0 in
     let v = c.of_model-v.result in
     let n = c.of_model-v.ensures in
@@ -107,13 +59,10 @@ put_group-p-requires c =
     let hs = here-settled m q _ e x o.result o.ensures.0 top o.ensures.1 o.ensures.2 v n in
     record { settled_among = (hs.0, o.ensures.1, hs.1); among = here-among m q _ e x o.result o.ensures.0 top o.ensures.1 o.ensures.2 v n; g_bound = (here-few m q _ e x o.result o.ensures.0 top o.ensures.1 o.ensures.2 v n, omega (arith, kept w, w.inside)); none_longer = here-longer m q _ e x o.result o.ensures.0 top o.ensures.1 o.ensures.2 v n }
 
-pub loop-x-smaller-then-x-p : goal.loop-x-smaller-then-x-p
-loop-x-smaller-then-x-p c = omega (arith, c.loop-x-test.true)
-
 pub loop-x-preserved-then-x-p : goal.loop-x-preserved-then-x-p
 unfolding zero_group
 loop-x-preserved-then-x-p c =
-    let m = c.args.m in
+    let m = c.args.m.now in
     let q = c.requires.0 in
     let v = c.of_model-v.result in
     let n = c.of_model-v.ensures in
@@ -130,7 +79,7 @@ loop-x-preserved-then-x-p c =
 pub loop-x-smaller-else-x-p : goal.loop-x-smaller-else-x-p
 unfolding zero_group
 loop-x-smaller-else-x-p c =
-    let m = c.args.m in
+    let m = c.args.m.now in
     let q = c.requires.0 in
     let v = c.of_model-v.result in
     let n = c.of_model-v.ensures in
@@ -146,7 +95,7 @@ loop-x-smaller-else-x-p c =
 pub loop-x-preserved-else-x-p : goal.loop-x-preserved-else-x-p
 unfolding zero_group
 loop-x-preserved-else-x-p c =
-    let m = c.args.m in
+    let m = c.args.m.now in
     let q = c.requires.0 in
     let v = c.of_model-v.result in
     let n = c.of_model-v.ensures in
@@ -162,7 +111,7 @@ loop-x-preserved-else-x-p c =
 
 pub bounds-m-j : goal.bounds-m-j
 bounds-m-j c =
-    let m = c.args.m in
+    let m = c.args.m.now in
     let q = c.requires.0 in
     let v = c.of_model-v.result in
     let e = c.of_model-v.ensures in
@@ -174,7 +123,7 @@ bounds-m-j c =
 
 pub bounds-v-j : goal.bounds-v-j
 bounds-v-j c =
-    let m = c.args.m in
+    let m = c.args.m.now in
     let q = c.requires.0 in
     let v = c.of_model-v.result in
     let e = c.of_model-v.ensures in
@@ -186,7 +135,7 @@ bounds-v-j c =
 
 pub constraint_block_fits-requires : goal.constraint_block_fits-requires
 constraint_block_fits-requires c =
-    let m = c.args.m in
+    let m = c.args.m.now in
     let q = c.requires.0 in
     let v = c.of_model-v.result in
     let e = c.of_model-v.ensures in
@@ -197,7 +146,7 @@ constraint_block_fits-requires c =
 
 pub put_constraint_block-at-requires : goal.put_constraint_block-at-requires
 put_constraint_block-at-requires c =
-    let m = c.args.m in
+    let m = c.args.m.now in
     let q = c.requires.0 in
     let v = c.of_model-v.result in
     let e = c.of_model-v.ensures in
@@ -206,17 +155,14 @@ put_constraint_block-at-requires c =
     let h : length (node_blocks m) < x = omega (arith, l, c.if-x-d.false) in
     let k : x ≤ block_count m = omega (arith, c.loop-x.invariant.short, c.loop-x-test.true, c.requires.2) in
     let w = c.loop-x.invariant.going.wrote in
-    let fits = does-fit (each clause_text (constraint_clauses m.n (take m.s m.groups) (get_or v.differences (x - c.of_groups-d.result.lines) 0) (get_or m.constraints (x - c.of_groups-d.result.lines) none))) _ c.constraint_block_fits.ensures c.if-constraint_block_fits.true in record { s_le_groups = (groups-few m q, entrants-few m q); all = (table-among m q, first-is m v e); t = (here-in-range m q none x h k _ l, x-some m q none x h k _ l v e, x-among m q none x h k _ l v e); c_in_bounds = omega (arith, fits, kept w, w.inside) }
+    let fits = does-fit (flat_map clause_text (constraint_clauses m.n (take m.s m.groups) (get_or v.differences (x - c.of_groups-d.result.lines) 0) (get_or m.constraints (x - c.of_groups-d.result.lines) none))) _ c.constraint_block_fits.ensures c.if-constraint_block_fits.true in record { s_le_groups = (groups-few m q, entrants-few m q); all = (table-among m q, first-is m v e); t = (here-in-range m q none x h k _ l, x-some m q none x h k _ l v e, x-among m q none x h k _ l v e); c_in_bounds = omega (arith, fits, kept w, w.inside) }
 
 pub overflow_add-x-then-constraint_block_fits : goal.overflow_add-x-then-constraint_block_fits
-overflow_add-x-then-constraint_block_fits c = omega (arith, blocks-most c.args.m c.requires.0, c.requires.2, c.loop-x.invariant.short, c.loop-x-test.true)
-
-pub loop-x-smaller-then-constraint_block_fits : goal.loop-x-smaller-then-constraint_block_fits
-loop-x-smaller-then-constraint_block_fits c = omega (arith, c.loop-x-test.true)
+overflow_add-x-then-constraint_block_fits c = omega (arith, blocks-most c.args.m.now c.requires.0, c.requires.2, c.loop-x.invariant.short, c.loop-x-test.true)
 
 pub loop-x-preserved-then-constraint_block_fits : goal.loop-x-preserved-then-constraint_block_fits
 loop-x-preserved-then-constraint_block_fits c =
-    let m = c.args.m in
+    let m = c.args.m.now in
     let q = c.requires.0 in
     let v = c.of_model-v.result in
     let e = c.of_model-v.ensures in
@@ -224,14 +170,11 @@ loop-x-preserved-then-constraint_block_fits c =
     let l = lines_are m q _ c.of_groups-d.ensures.1 in
     let h : length (node_blocks m) < x = omega (arith, l, c.if-x-d.false) in
     let k : x ≤ block_count m = omega (arith, c.loop-x.invariant.short, c.loop-x-test.true, c.requires.2) in
-    stopped-on c.args.m c.args.b c.args.end _ _ _ _ _ c.loop-x.invariant c.loop-x-test.true c.requires.0 c.requires.2 _ _ (same_text (here-block m q none x h k _ l v e) c.put_constraint_block-at.ensures)
-
-pub loop-x-smaller : goal.loop-x-smaller
-loop-x-smaller c = omega (arith, c.loop-x-test.true)
+    stopped-on c.args.m.now c.args.b c.args.end _ _ _ _ _ c.loop-x.invariant c.loop-x-test.true c.requires.0 c.requires.2 _ _ (same_text (here-block m q none x h k _ l v e) c.put_constraint_block-at.ensures)
 
 pub loop-x-preserved : goal.loop-x-preserved
 loop-x-preserved c =
-    let m = c.args.m in
+    let m = c.args.m.now in
     let q = c.requires.0 in
     let v = c.of_model-v.result in
     let e = c.of_model-v.ensures in
@@ -239,13 +182,13 @@ loop-x-preserved c =
     let l = lines_are m q _ c.of_groups-d.ensures.1 in
     let h : length (node_blocks m) < x = omega (arith, l, c.if-x-d.false) in
     let k : x ≤ block_count m = omega (arith, c.loop-x.invariant.short, c.loop-x-test.true, c.requires.2) in
-    let fits = does-not-fit (each clause_text (constraint_clauses m.n (take m.s m.groups) (get_or v.differences (x - c.of_groups-d.result.lines) 0) (get_or m.constraints (x - c.of_groups-d.result.lines) none))) _ c.constraint_block_fits.ensures c.if-constraint_block_fits.false in
-    stopped-short c.args.m c.args.b c.args.end _ _ _ _ _ c.loop-x.invariant c.loop-x-test.true (omega (arith, fits, ap length (here-block m q none x h k _ l v e)))
+    let fits = does-not-fit (flat_map clause_text (constraint_clauses m.n (take m.s m.groups) (get_or v.differences (x - c.of_groups-d.result.lines) 0) (get_or m.constraints (x - c.of_groups-d.result.lines) none))) _ c.constraint_block_fits.ensures c.if-constraint_block_fits.false in
+    stopped-short c.args.m.now c.args.b c.args.end _ _ _ _ _ c.loop-x.invariant c.loop-x-test.true (omega (arith, fits, ap length (here-block m q none x h k _ l v e)))
 
 pub returns-then-x-b : goal.returns-then-x-b
 returns-then-x-b c =
-    let p = c.requires in record { value = first-answer c.args.m c.args.b c.args.end _ p.0 p.2 _ _ _ _ c.loop-x.invariant c.loop-x-test.false p.1 c.if-x-b.true; buf_after = stopped-buffer c.args.m c.args.b c.args.end _ p.0 p.2 _ _ _ _ c.loop-x.invariant c.loop-x-test.false }
+    let p = c.requires in record { value = first-answer c.args.m.now c.args.b c.args.end _ p.0 p.2 _ _ _ _ c.loop-x.invariant c.loop-x-test.false p.1 c.if-x-b.true; buf_after = stopped-buffer c.args.m.now c.args.b c.args.end _ p.0 p.2 _ _ _ _ c.loop-x.invariant c.loop-x-test.false }
 
 pub returns : goal.returns
 returns c =
-    let p = c.requires in record { value = stopped-answer c.args.m c.args.b c.args.end _ p.0 p.2 _ _ _ _ c.loop-x.invariant c.loop-x-test.false c.if-x-b.false; buf_after = stopped-buffer c.args.m c.args.b c.args.end _ p.0 p.2 _ _ _ _ c.loop-x.invariant c.loop-x-test.false }
+    let p = c.requires in record { value = stopped-answer c.args.m.now c.args.b c.args.end _ p.0 p.2 _ _ _ _ c.loop-x.invariant c.loop-x-test.false c.if-x-b.false; buf_after = stopped-buffer c.args.m.now c.args.b c.args.end _ p.0 p.2 _ _ _ _ c.loop-x.invariant c.loop-x-test.false }

@@ -1,5 +1,6 @@
 use mathlib.Core.Path.{◌≡◌, sym, ap₂, ◌∙◌}
-use Prim.Native.Nat.{ℕ, ◌+◌, ◌≤◌, ◌<◌}
+use Prim.Native.Nat.{ℕ, ◌+◌, ◌≤◌, ◌<◌, min}
+use native.Mathlib.Decide.{dec_lt}
 use native.Mathlib.Omega.{arith}
 use mathlib.Core.Bool.{Bool, true, false}
 use mathlib.Core.List.{List}
@@ -14,17 +15,13 @@ use Rattle.combine.proofs.clash_among.Invariants.{Rest}
 use Rattle.combine.proofs.clash_among.Goals as goal
 
 module _ (xs ys : List Group) (s t i : ℕ) (inv : Rest xs ys s t i) where
-  short : (zs : List Group) (k : ℕ) → k ≤ i → length (take k zs) ≤ i
-  short zs k h = omega (arith, length-take k zs)
-
-  past_first : s ≤ i → no_clash ≡ first_clash 1 (take s xs) (take t ys)
-  past_first h = sym (inv ∙ no-first (take s xs) (take t ys) i (short xs s h))
-
-  past-second : t ≤ i → no_clash ≡ first_clash 1 (take s xs) (take t ys)
-  past-second h = sym (inv ∙ no_second (take s xs) (take t ys) i (short ys t h))
-
-  past_all : length xs ≤ i → no_clash ≡ first_clash 1 (take s xs) (take t ys)
-  past_all h = sym (inv ∙ no-first (take s xs) (take t ys) i (omega (arith, length-take s xs)))
+  -- one of the two has no group at place i
+  past : min (min s t) (length xs) ≤ i → no_clash ≡ first_clash 1 (take s xs) (take t ys)
+  past h = go (dec_lt i (length (take s xs)))
+    where
+      go : Dec (i < length (take s xs)) → no_clash ≡ first_clash 1 (take s xs) (take t ys)
+      go (yes k) = sym (inv ∙ no_second (take s xs) (take t ys) i (omega (arith, length-take s xs, length-take t ys)))
+      go (no k) = sym (inv ∙ no-first (take s xs) (take t ys) i (omega arith))
 
   module _ (h : i < s) (k : i < t) (l : i < length xs) (m : i < length ys) where
     inside-xs : i < length (take s xs)
@@ -48,34 +45,7 @@ module _ (xs ys : List Group) (s t i : ℕ) (inv : Rest xs ys s t i) where
     goes : fits (get_or xs i zero_group) (get_or ys i zero_group) ≡ true → Rest xs ys s t (i + 1)
     goes e = inv ∙ clash-later (take s xs) (take t ys) i inside-xs inside-ys (at_both _ e)
 
-pub returns-then-s-i : goal.returns-then-s-i
-returns-then-s-i c =
-    let l = c.loop-i in
-    c.no_clash.ensures ∙ past_first c.args.xs c.args.ys c.args.s c.args.t l.i l.invariant.1 c.if-s-i.true
-
-pub returns-then-t-i : goal.returns-then-t-i
-returns-then-t-i c =
-    let l = c.loop-i in
-    c.no_clash-then-t-i.ensures ∙ past-second c.args.xs c.args.ys c.args.s c.args.t l.i l.invariant.1 c.if-t-i.true
-
-pub returns-then-not-fits : goal.returns-then-not-fits
-unfolding zero_group
-returns-then-not-fits c =
-    let l = c.loop-i in
-    c.clash_in.ensures
-    ∙ found c.args.xs c.args.ys c.args.s c.args.t l.i l.invariant.1 (omega arith) (omega arith) (omega arith) (omega arith)
-    (sym c.fits.ensures ∙ c.if-not-fits.true)
-
-pub loop-i-preserved : goal.loop-i-preserved
-unfolding zero_group
-loop-i-preserved c =
-    let l = c.loop-i in (
-      omega arith,
-      goes c.args.xs c.args.ys c.args.s c.args.t l.i l.invariant.1 (omega arith) (omega arith) (omega arith) (omega arith)
-          (sym c.fits.ensures ∙ c.if-not-fits.false),
-    )
-
 pub returns : goal.returns
 returns c =
     let l = c.loop-i in
-    c.no_clash-2.ensures ∙ past_all c.args.xs c.args.ys c.args.s c.args.t l.i l.invariant.1 (omega arith)
+    c.no_clash.ensures ∙ past c.args.xs.now c.args.ys.now c.args.s c.args.t l.i l.invariant (omega arith)

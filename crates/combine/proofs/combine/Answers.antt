@@ -5,10 +5,6 @@ use Rattle.combine.proofs.Laws.{combines, sizes}
 use Rattle.combine.proofs.Entry.{refused_as_lem, combined_as}
 use Rattle.combine.proofs.combine.Goals as goal
 
-pub refusal-r-requires : goal.refusal-r-requires
-refusal-r-requires c =
-    (whole_of c.args.a c.whole.ensures, whole_of c.args.b c.whole-2.ensures)
-
 pub returns-then-r-ne0 : goal.returns-then-r-ne0
 returns-then-r-ne0 c = record { value = refused_as_lem c.args.a c.args.b _ _ c.refusal-r.ensures c.if-r-ne0.true c.zero.ensures; combines = combines c.args.a c.args.b (whole_of c.args.a c.whole.ensures) (whole_of c.args.b c.whole-2.ensures) }
 

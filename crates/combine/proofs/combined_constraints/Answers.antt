@@ -40,36 +40,19 @@ module _ (xs lines : List Constraint) (k : ℕ) (h : k ≤ length xs) (e : Store
 
 pub loop-i-init : goal.loop-i-init
 unfolding zero_constraint
-loop-i-init c = (omega arith, refl)
+loop-i-init c = refl
 
 pub loop-i-preserved : goal.loop-i-preserved
 loop-i-preserved c =
     let l = c.loop-i in
-    (omega arith, first-stored c.args.a l.constraints l.i c.clean.result _ (omega arith) (omega arith) l.invariant.1 c.clean.ensures)
-
-pub loop-j-init : goal.loop-j-init
-loop-j-init c =
-    let l = c.loop-i in
-    let e : l.i ≡ c.args.k = omega arith in
-    (omega arith, begun c.args.a l.constraints c.args.k (omega arith) (subst (λ (i : ℕ). Stored n [] c.args.a i l.constraints) e l.invariant.1) c.args.b)
+    first-stored c.args.a.now l.constraints l.i c.clean.result _ (omega arith) (omega arith) l.invariant c.clean.ensures
 
 pub loop-j-preserved : goal.loop-j-preserved
 loop-j-preserved c =
     let p = c.loop-i in
     let l = c.loop-j in
     let e : p.i ≡ c.args.k = omega arith in
-    let long = front_length c.args.a p.constraints c.args.k (omega arith) (subst (λ (i : ℕ). Stored n [] c.args.a i p.constraints) e p.invariant.1) in
-    let x = c.clean-in-loop-j.result in (
-      omega arith,
-      subst (λ (k : ℕ). Stored n (take c.args.k p.constraints) c.args.b (l.j + 1) (set l.constraints (k + l.j) x)) long
-          (line-stored n (take c.args.k p.constraints) c.args.b l.constraints l.j x _ (omega arith) (omega (arith, long)) l.invariant.1 c.clean-in-loop-j.ensures),
-    )
-
-pub returns : goal.returns
-returns c =
-    let p = c.loop-i in
-    let l = c.loop-j in
-    let e : p.i ≡ c.args.k = omega arith in
-    let f : l.j ≡ c.args.l = omega arith in
-    done c.args.a p.constraints c.args.k (omega arith) (subst (λ (i : ℕ). Stored n [] c.args.a i p.constraints) e p.invariant.1) c.args.b
-    l.constraints c.args.l (subst (λ (j : ℕ). Stored n (take c.args.k p.constraints) c.args.b j l.constraints) f l.invariant.1)
+    let long = front_length c.args.a.now p.constraints c.args.k (omega arith) (subst (λ (i : ℕ). Stored n [] c.args.a.now i p.constraints) e p.invariant) in
+    let x = c.clean-in-loop-j.result in
+    subst (λ (k : ℕ). Stored n (take c.args.k p.constraints) c.args.b.now (l.j + 1) (set l.constraints (k + l.j) x)) long
+    (line-stored n (take c.args.k p.constraints) c.args.b.now l.constraints l.j x _ (omega arith) (omega (arith, long)) l.invariant c.clean-in-loop-j.ensures)

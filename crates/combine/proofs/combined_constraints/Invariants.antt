@@ -1,6 +1,6 @@
 -- `combined_constraints` stores the lines of a, then those of b. Invariants: the first i of a, then zeros; these k, the first j of b, then zeros.
 -- Assumes nothing.
-use Prim.Native.Nat.{ℕ, ◌-◌, ◌≤◌}
+use Prim.Native.Nat.{ℕ}
 use mathlib.Core.List.{[]}
 use lib.ListN.{take}
 use Rattle.model.specs.Limits.{limits}
@@ -11,13 +11,7 @@ abbrev pub n : ℕ
 n = limits.constraints
 
 abbrev pub invariant-loop-i : goal.invariant-loop-i
-invariant-loop-i l = (l.i ≤ l.k) × Stored n [] l.a l.i l.constraints
-
-abbrev pub decreases-loop-i : goal.decreases-loop-i
-decreases-loop-i l = l.k - l.i
+invariant-loop-i l = Stored n [] l.a l.i l.constraints
 
 abbrev pub invariant-loop-j : goal.invariant-loop-j
-invariant-loop-j l = (l.j ≤ l.l) × Stored n (take l.k l.initial.constraints) l.b l.j l.constraints
-
-abbrev pub decreases-loop-j : goal.decreases-loop-j
-decreases-loop-j l = l.l - l.j
+invariant-loop-j l = Stored n (take l.k l.initial.constraints) l.b l.j l.constraints

@@ -6,7 +6,7 @@ use borrow.Author.Tests.{eq-eqb, ne_eqb}
 use Rattle.model.specs.Limits.{limits}
 use Rattle.model.specs.Words.{bit, has}
 use Rattle.combine.specs.Clash.{first_entrant}
-use Rattle.combine.proofs.Clashes.{first-here, first_next, first-none}
+use Rattle.combine.proofs.Clashes.{first-here, first_next}
 use Rattle.combine.proofs.first_entrant.Invariants.{entrant_of}
 use Rattle.combine.proofs.first_entrant.Goals as goal
 
@@ -16,24 +16,18 @@ at-bit w e b h = let z : e + 1 - 1 ≡ e = omega arith in rw z h
 
 pub loop-e-init : goal.loop-e-init
 unfolding first_entrant
-loop-e-init c = (omega arith, refl)
+loop-e-init c = refl
 
 pub returns-then-w-e-eq1 : goal.returns-then-w-e-eq1
 unfolding has bit
 returns-then-w-e-eq1 c =
     let w = c.args.w in
     let l = c.loop-e in
-    sym (l.invariant.1 ∙ first-here (entrant_of w) l.e limits.word (omega arith) (at-bit w l.e _ (eq-eqb _ _ c.if-w-e-eq1.true)))
+    sym (l.invariant ∙ first-here (entrant_of w) l.e limits.word (omega arith) (at-bit w l.e _ (eq-eqb _ _ c.if-w-e-eq1.true)))
 
 pub loop-e-preserved : goal.loop-e-preserved
 unfolding has bit
 loop-e-preserved c =
     let w = c.args.w in
     let l = c.loop-e in
-    (omega arith, l.invariant.1 ∙ first_next (entrant_of w) l.e limits.word (omega arith) (at-bit w l.e _ (ne_eqb _ _ c.if-w-e-eq1.false)))
-
-pub returns : goal.returns
-returns c =
-    let w = c.args.w in
-    let l = c.loop-e in
-    sym (l.invariant.1 ∙ first-none (entrant_of w) l.e limits.word (omega arith))
+    l.invariant ∙ first_next (entrant_of w) l.e limits.word (omega arith) (at-bit w l.e _ (ne_eqb _ _ c.if-w-e-eq1.false))

@@ -1,6 +1,6 @@
 -- `first_entrant` asks bit after bit. Invariant: the first of all is the first from e + 1 on. Assumes nothing.
 use mathlib.Core.Path.{◌≡◌}
-use Prim.Native.Nat.{ℕ, ◌+◌, ◌-◌, ◌≤◌}
+use Prim.Native.Nat.{ℕ, ◌+◌, ◌-◌}
 use mathlib.Core.Bool.{Bool}
 use Rattle.model.specs.Lists.{range}
 use Rattle.model.specs.Limits.{limits}
@@ -12,7 +12,4 @@ abbrev pub entrant_of : ℕ → ℕ → Bool
 entrant_of w e = has w (e - 1)
 
 abbrev pub invariant-loop-e : goal.invariant-loop-e
-invariant-loop-e l = (l.e ≤ limits.word) × (first_entrant l.w ≡ first_where (entrant_of l.w) (range (l.e + 1) (limits.word - l.e)))
-
-abbrev pub decreases-loop-e : goal.decreases-loop-e
-decreases-loop-e l = limits.word - l.e
+invariant-loop-e l = first_entrant l.w ≡ first_where (entrant_of l.w) (range (l.e + 1) (limits.word - l.e))

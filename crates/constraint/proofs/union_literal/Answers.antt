@@ -5,9 +5,6 @@ use Rattle.model.specs.declared.Literal.TheVariants.{Pos}
 use Rattle.constraint.proofs.Union.{past_pairs, pair-first, pair-rest}
 use Rattle.constraint.proofs.union_literal.Goals as goal
 
-pub returns-then-j-eq0 : goal.returns-then-j-eq0
-returns-then-j-eq0 c = rw (c.if-j-eq0.true) (c.long_literal.ensures)
-
 pub returns-then-k-j : goal.returns-then-k-j
 returns-then-k-j c = sym (ap (λ l. get_or l (c.args.i) (Pos 0)) (past_pairs (c.args.k) (c.args.j) (c.if-k-j.true)))
 

@@ -8,12 +8,9 @@ use Rattle.counts.proofs.Entrants.{total-last}
 use native.Mathlib.Omega.{arith}
 use Rattle.counts.proofs.entrant_count.Goals as goal
 
-pub overflow_add-r : goal.overflow_add-r
-overflow_add-r c = omega (arith, c.kept_count-r.ensures.1, c.loop-j.invariant.2, c.clause_count-end.ensures, c.requires)
-
 pub loop-j-preserved : goal.loop-j-preserved
-loop-j-preserved c = (omega arith, omega (arith, c.loop-j.invariant.1, c.kept_count-r.ensures.0, total-last (kept_count c.args.ns.now c.args.code c.args.count) c.loop-j.j), omega (arith, c.kept_count-r.ensures.1, c.loop-j.invariant.2))
+loop-j-preserved c = (omega (arith, c.loop-j.invariant.0, c.kept_count-r.ensures.0, total-last (kept_count c.args.ns.now c.args.code c.args.count) c.loop-j.j), omega (arith, c.kept_count-r.ensures.1, c.loop-j.invariant.1))
 
 pub returns : goal.returns
 unfolding entrant_count
-returns c = let e : c.loop-j.j ≡ length (member_clauses c.args.code c.args.count) = omega (arith, c.clause_count-end.ensures) in (c.loop-j.invariant.1 ∙ ap (λ (k : ℕ). total (kept_count c.args.ns.now c.args.code c.args.count) (range 0 k)) e, omega (arith, c.loop-j.invariant.2, e))
+returns c = let e : c.loop-j.j ≡ length (member_clauses c.args.code c.args.count) = omega (arith, c.clause_count-j-end.ensures) in (c.loop-j.invariant.0 ∙ ap (λ (k : ℕ). total (kept_count c.args.ns.now c.args.code c.args.count) (range 0 k)) e, omega (arith, c.loop-j.invariant.1, e))

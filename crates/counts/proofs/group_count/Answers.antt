@@ -37,9 +37,6 @@ returns-then-not-t c =
     let p = totalizer-parts g _ c.totalizer_of-t.ensures.value in
     (sym (none-clauses g (sym p.3 ∙ not-true _ c.if-not-t.true)), omega arith)
 
-pub tree_count-requires : goal.tree_count-requires
-tree_count-requires c = c.totalizer_of-t.ensures.size_le_word
-
 pub overflow_add-result : goal.overflow_add-result
 overflow_add-result c =
     omega (arith, small c.args.g c.requires _ c.totalizer_of-t.ensures.value (not-false _ c.if-not-t.false) _ c.tree_count.ensures)

@@ -10,4 +10,4 @@ use Rattle.difference.proofs.differing.Goals as goal
 pub returns : goal.returns
 unfolding member_at
 returns c =
-    c.differing_of.ensures ∙ ap₂ (λ (f g : Group). differing_of c.args.c f g) c.group_at-f.ensures c.group_at-g.ensures ∙ differing-is (take c.args.s c.args.groups) c.args.c
+    c.differing_of.ensures ∙ ap₂ (λ (f g : Group). differing_of c.args.c.now f g) c.group_at-f.ensures c.group_at-g.ensures ∙ differing-is (take c.args.s c.args.groups.now) c.args.c.now

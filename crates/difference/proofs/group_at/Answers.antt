@@ -7,5 +7,4 @@ use Rattle.difference.proofs.group_at.Goals as goal
 
 pub returns : goal.returns
 unfolding zero_group
-returns c =
-    c.member.ensures ∙ member_is c.args.groups c.args.s c.args.g _ (omega (arith, c.well_formed)) c.slot-i.ensures.value
+returns c = c.member.ensures ∙ member_is c.args.groups.now c.args.s c.args.g _ (omega arith) c.slot.ensures.value

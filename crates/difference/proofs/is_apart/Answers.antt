@@ -10,4 +10,4 @@ use Rattle.difference.proofs.is_apart.Goals as goal
 pub returns : goal.returns
 unfolding member_at
 returns c =
-    c.apart_of.ensures ∙ ap₂ (λ (f g : Group). apart_of c.args.c f g) c.group_at-f.ensures c.group_at-g.ensures ∙ apart-is (take c.args.s c.args.groups) c.args.c
+    c.apart_of.ensures ∙ ap₂ (λ (f g : Group). apart_of c.args.c.now f g) c.group_at-f.ensures c.group_at-g.ensures ∙ apart-is (take c.args.s c.args.groups.now) c.args.c.now

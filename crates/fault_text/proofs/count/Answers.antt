@@ -1,35 +1,17 @@
--- `count` adds text after text. Assumes nothing.
+-- `count`: text after text. Assumes nothing.
 use lib.Dec.{lit≤}
-use borrow.Author.Tests.{eq-eqb, ne_eqb}
 use Rattle.report.specs.Messages.{bytes}
-use Rattle.report.proofs.Laws.{start, add-text, add-decimal, said}
+use Rattle.report.proofs.Laws.{said, start, add-text, add-decimal}
 use Rattle.fault_text.specs.Texts.{count_text}
+use Rattle.fault_text.proofs.Laws.{add-range}
 use Rattle.fault_text.proofs.count.Goals as goal
-
--- the clauses by their names
-named : {A B : Type 0} → A × B → record { value : A; counted : B }
-named p = record { value = p.0; counted = p.1 }
-
-pub returns-then-low-high : goal.returns-then-low-high
-unfolding count_text
-returns-then-low-high c = named (rw (eq-eqb _ _ c.if-low-high.true)
-    (said (lit≤ tt)
-    (add-text (bytes "\n") c.add.ensures
-    (add-decimal c.args.low c.ranges.low.fits c.add_number-d.ensures
-    (add-text (bytes " fields: it must have ") c.add-c.ensures
-    (add-decimal c.args.has c.ranges.has.fits c.add_number-b.ensures
-    (add-text (bytes "the line has ") c.add-a.ensures
-    (start c.empty.ensures))))))))
 
 pub returns : goal.returns
 unfolding count_text
-returns c = named (rw (ne_eqb _ _ c.if-low-high.false)
-    (said (lit≤ tt)
-    (add-text (bytes "\n") c.add-2.ensures
-    (add-decimal c.args.high c.ranges.high.fits c.add_number-f.ensures
-    (add-text (bytes " to ") c.add-e.ensures
-    (add-decimal c.args.low c.ranges.low.fits c.add_number-d.ensures
-    (add-text (bytes " fields: it must have ") c.add-c.ensures
-    (add-decimal c.args.has c.ranges.has.fits c.add_number-b.ensures
-    (add-text (bytes "the line has ") c.add-a.ensures
-    (start c.empty.ensures))))))))))
+returns c =
+    said (lit≤ tt)
+    (add-range c.args.low c.args.high c.ranges.low.fits c.ranges.high.fits c.to_most.ensures
+    (add-text (bytes " fields: it must have ") c.add-m.ensures
+    (add-decimal c.args.has c.ranges.has.fits c.add_number.ensures
+    (add-text (bytes "the line has ") c.add.ensures
+    (start c.empty.ensures)))))

@@ -22,7 +22,7 @@ pub is_draw-requires : goal.is_draw-requires
 is_draw-requires c =
     let s = whole_of c.args.m c.whole.ensures in
     let e = c.unsettled-refusal.ensures in
-    (ranged c.args.m s c.args.words.now c.args.values.now _ e c.if-refusal-ne0.false, c.sized.ensures)
+    ranged c.args.m s c.args.words.now c.args.values.now _ e c.if-refusal-ne0.false
 
 pub returns-then-not-is_draw : goal.returns-then-not-is_draw
 returns-then-not-is_draw c =
@@ -46,7 +46,7 @@ put_all_variables-k-requires c =
     let all =
     all-length c.args.m s c.args.words.now c.args.values.now _ e z _ c.is_draw.ensures c.if-not-is_draw.false _
     (variables-is c.args.m _ c.of_model-v.ensures) (omega arith) in
-    record { n_le_entrants = (i.entrants, i.group_count, c.sized.ensures); words_in_bounds = omega (arith, all) }
+    record { n_le_entrants = (i.entrants, i.group_count); words_in_bounds = omega (arith, all) }
 
 pub put_all_totalizers-j-requires : goal.put_all_totalizers-j-requires
 put_all_totalizers-j-requires c =
@@ -58,7 +58,7 @@ put_all_totalizers-j-requires c =
     let all =
     all-length c.args.m s c.args.words.now c.args.values.now _ e z _ c.is_draw.ensures c.if-not-is_draw.false _
     (variables-is c.args.m _ c.of_model-v.ensures) (omega arith) in
-    record { n_le_entrants = (i.entrants, i.group_count, c.sized.ensures); words_in_bounds = omega (arith, all, w.next, kept w) }
+    record { n_le_entrants = (i.entrants, i.group_count); words_in_bounds = omega (arith, all, w.next, kept w) }
 
 pub put_all_differences-requires : goal.put_all_differences-requires
 unfolding constraints_of

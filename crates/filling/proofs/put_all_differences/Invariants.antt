@@ -1,5 +1,4 @@
 -- `put_all_differences` writes constraint after constraint. Invariant: the first j are written. Assumes nothing.
-use Prim.Native.Nat.{◌-◌, ◌≤◌}
 use lib.ListN.{take}
 use Rattle.model.specs.Fill.{difference_values}
 use Rattle.text.specs.Put.{Wrote}
@@ -8,7 +7,4 @@ use Rattle.filling.proofs.put_all_differences.Given as goal
 
 abbrev pub invariant-loop-j : goal.invariant-loop-j
 invariant-loop-j l =
-    Wrote (first_constraints (difference_values l.n (take l.s l.groups) (take l.s l.words)) l.constraints l.j) l.at l.initial.values l.values l.k × (l.j ≤ l.c)
-
-abbrev pub decreases-loop-j : goal.decreases-loop-j
-decreases-loop-j l = l.c - l.j
+    Wrote (first_constraints (difference_values l.n (take l.s l.groups) (take l.s l.words)) l.constraints l.j) l.at l.initial.values l.values l.k

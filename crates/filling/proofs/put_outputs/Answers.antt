@@ -1,34 +1,32 @@
-use Prim.Native.Nat.{ℕ}
-use mathlib.Core.Path.{◌≡◌, sym, ap, ◌∙◌}
-use mathlib.Core.List.{[], ◌∷◌}
+use mathlib.Core.Path.{◌≡◌, sym, ap, subst, ◌∙◌}
+use mathlib.Core.List.{List, [], ◌∷◌}
+use Prim.Native.Nat.{ℕ, ◌+◌}
 use native.Mathlib.Omega.{arith}
 use lib.ListN.{length}
-use Rattle.model.specs.Lists.{each, range}
-use Rattle.text.proofs.Writes.{done, same_text, byte, turn, room}
+use Rattle.std.specs.List.{flat_map}
+use Rattle.model.specs.Lists.{range}
+use Rattle.text.specs.Put.{Wrote}
+use Rattle.text.proofs.Writes.{same_text, byte, turn, room}
 use Rattle.filling.proofs.Values.{output_value, outputs_are}
 use Rattle.filling.proofs.put_outputs.Goals as goal
 
-pub loop-i-init : goal.loop-i-init
-loop-i-init c = (done _ _ (omega (arith, c.requires)), omega arith)
+ends : {t xs ys : List ℕ} {a n k : ℕ} → n ≡ k → Wrote t a xs ys n → Wrote t a xs ys k
+ends {t} {xs} {ys} {a} e w = subst (λ (k : ℕ). Wrote t a xs ys k) e w
 
-pub bounds-values-k : goal.bounds-values-k
-bounds-values-k c =
-    let all = ap length (outputs_are c.args.m c.args.x) in
-    omega (arith, room (output_value c.args.x) c.loop-i.i c.args.m c.loop-i.invariant.0 c.loop-i-test.true (omega (arith, c.requires, all)))
-
-pub overflow_add-k : goal.overflow_add-k
-overflow_add-k c =
-    let all = ap length (outputs_are c.args.m c.args.x) in
-    omega (arith, room (output_value c.args.x) c.loop-i.i c.args.m c.loop-i.invariant.0 c.loop-i-test.true (omega (arith, c.requires, all)))
+pub bounds-values-at : goal.bounds-values-at
+bounds-values-at c =
+    omega (arith, room (output_value c.args.x) c.loop-i.i c.args.m c.loop-i.invariant c.loop-i-test.true (omega (arith, c.requires, ap length (outputs_are c.args.m c.args.x))))
 
 pub loop-i-preserved : goal.loop-i-preserved
 loop-i-preserved c =
-    let all = ap length (outputs_are c.args.m c.args.x) in
-    let r = room (output_value c.args.x) c.loop-i.i c.args.m c.loop-i.invariant.0 c.loop-i-test.true (omega (arith, c.requires, all)) in
-    let w = byte c.value_of.result c.loop-i.k c.loop-i.values (omega (arith, r)) in
-    (turn (output_value c.args.x) c.loop-i.i c.loop-i.invariant.0 (same_text (ap (λ (b : ℕ). b ∷ []) c.value_of.ensures) w), omega arith)
+    let l = c.loop-i in
+    let r = room (output_value c.args.x) l.i c.args.m l.invariant c.loop-i-test.true (omega (arith, c.requires, ap length (outputs_are c.args.m c.args.x))) in
+    let w = byte c.value_of.result (c.args.at + l.i) l.values (omega (arith, r)) in
+    let next : c.args.at + l.i + 1 ≡ c.args.at + (l.i + 1) = omega arith in
+    ends next (turn (output_value c.args.x) l.i l.invariant (same_text (ap (λ (b : ℕ). b ∷ []) c.value_of.ensures) w))
 
 pub returns : goal.returns
 returns c =
-    let all : c.loop-i.i ≡ c.args.m = omega (arith, c.loop-i.invariant.1) in
-    same_text (ap (λ (k : ℕ). each (output_value c.args.x) (range 0 k)) all ∙ sym (outputs_are c.args.m c.args.x)) c.loop-i.invariant.0
+    let all : c.loop-i.i ≡ c.args.m = omega arith in
+    ends (ap (λ (k : ℕ). c.args.at + k) all)
+    (same_text (ap (λ (k : ℕ). flat_map (output_value c.args.x) (range 0 k)) all ∙ sym (outputs_are c.args.m c.args.x)) c.loop-i.invariant)

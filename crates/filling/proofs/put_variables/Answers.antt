@@ -1,13 +1,11 @@
 -- `put_variables` writes the open entrants of a group. Assumes nothing.
-use Rattle.model.specs.Words.{less}
 use Rattle.model.specs.Cnf.{open_of}
 use Rattle.filling.proofs.put_variables.Goals as goal
 
-pub put_open-requires : goal.put_open-requires
-unfolding open_of less
-put_open-requires c =
-    record { n_le_entrants = c.requires.n_le_entrants; w_in_bounds = c.requires.w_in_bounds }
+pub put_open-requires-clause-w_in_bounds : goal.put_open-requires-clause-w_in_bounds
+unfolding open_of
+put_open-requires-clause-w_in_bounds c = rw c.without.ensures c.requires.w_in_bounds
 
 pub returns : goal.returns
-unfolding open_of less
-returns c = c.put_open.ensures
+unfolding open_of
+returns c = rw c.without.ensures at c.put_open.ensures

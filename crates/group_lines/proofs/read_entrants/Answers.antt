@@ -1,5 +1,5 @@
 use Prim.Native.Nat.{◌+◌}
-use mathlib.Core.Path.{refl, ◌∙◌}
+use mathlib.Core.Path.{refl}
 use native.Mathlib.Omega.{arith}
 use Rattle.line_form.proofs.Words.{word_size}
 use Rattle.group_lines.proofs.Entrants.{inside-next, bad, past, twice, next, all_read}
@@ -12,16 +12,16 @@ pub slice_bounds-number_in-end : goal.slice_bounds-number_in-end
 slice_bounds-number_in-end c = word_size c.args.line.now (c.loop-at.at + 1) c.word_length-k.result (omega arith) c.word_length-k.ensures
 
 pub returns-then-e-eq0 : goal.returns-then-e-eq0
-returns-then-e-eq0 c = c.wrong_line.ensures ∙ bad c.loop-at.invariant c.loop-at-test.true c.word_length-k.result c.word_length-k.ensures c.number_in-e.result c.number_in-e.ensures c.if-e-eq0.true
+returns-then-e-eq0 c = bad c.loop-at.invariant c.loop-at-test.true c.word_length-k.result c.word_length-k.ensures c.number_in-e.result c.number_in-e.ensures c.if-e-eq0.true
 
 pub returns-then-n-e : goal.returns-then-n-e
-returns-then-n-e c = c.wrong_line-then-n-e.ensures ∙ past c.loop-at.invariant c.loop-at-test.true c.word_length-k.result c.word_length-k.ensures c.number_in-e.result c.number_in-e.ensures c.if-e-eq0.false c.if-n-e.true
+returns-then-n-e c = past c.loop-at.invariant c.loop-at-test.true c.word_length-k.result c.word_length-k.ensures c.number_in-e.result c.number_in-e.ensures c.if-e-eq0.false c.if-n-e.true
 
 pub overflow_shr-word : goal.overflow_shr-word
 overflow_shr-word c = omega (arith, c.if-n-e.false, c.if-e-eq0.false, c.requires.1)
 
 pub returns-then-word-e-eq1 : goal.returns-then-word-e-eq1
-returns-then-word-e-eq1 c = c.wrong_line-then-word-e-eq1.ensures ∙ twice c.loop-at.invariant c.loop-at-test.true c.word_length-k.result c.word_length-k.ensures c.number_in-e.result c.number_in-e.ensures c.if-e-eq0.false c.if-n-e.false c.if-word-e-eq1.true
+returns-then-word-e-eq1 c = twice c.loop-at.invariant c.loop-at-test.true c.word_length-k.result c.word_length-k.ensures c.number_in-e.result c.number_in-e.ensures c.if-e-eq0.false c.if-n-e.false c.if-word-e-eq1.true
 
 pub overflow_shl-word : goal.overflow_shl-word
 overflow_shl-word c = omega (arith, c.if-n-e.false, c.if-e-eq0.false, c.requires.1)

@@ -1,9 +1,27 @@
--- `applied`: the lent arrays are whole, as owning their copies tells, and what the steps make of them is read off the table without entrants. Assumes nothing.
-use Rattle.limit_rule.proofs.Alone.{lows-after, highs-after}
+-- `applied` passes on the limits of a constraint, code by code. Assumes nothing.
+use Rattle.std.proofs.Common.{refl, arith}
+use Rattle.table.proofs.Rules.{run-append}
+use Rattle.limit_rule.proofs.Codes.{equal-limits, within-limits, both-limits, either-limits, less-limits, union-limits-are, no-limits}
 use Rattle.limit_rule.proofs.applied.Goals as goal
 
-pub returns : goal.returns
-returns c =
-    let s = c.sized.ensures in
-    let m = c.limits_moved.ensures in
-    let t = c.sized-2.ensures in record { low_after = lows-after c.args.c c.args.low.now c.args.high.now _ _ s.0 s.1 t.0 t.1 m; high_after = highs-after c.args.c c.args.low.now c.args.high.now _ _ s.0 s.1 t.0 t.1 m; moves = m }
+pub returns-in-1 : goal.returns-in-1
+returns-in-1 c = rw (equal-limits c.args.c.now c.in-1.is, run-append) (cc)
+
+pub returns-in-2 : goal.returns-in-2
+returns-in-2 c = rw (within-limits c.args.c.now c.in-2.is) c.low_first-in-2.ensures
+
+pub returns-in-3 : goal.returns-in-3
+returns-in-3 c = rw (both-limits c.args.c.now c.in-3.is, run-append) (cc)
+
+pub returns-in-4 : goal.returns-in-4
+returns-in-4 c = rw (either-limits c.args.c.now c.in-4.is) c.union_limits.ensures
+
+pub returns-in-5 : goal.returns-in-5
+returns-in-5 c = rw (less-limits c.args.c.now c.in-5.is) c.high_first-in-5.ensures
+
+pub returns-in-6 : goal.returns-in-6
+returns-in-6 c = rw (union-limits-are c.args.c.now c.in-6.is (omega arith) _ c.min-count.ensures) c.union_limits-in-6.ensures
+
+pub returns-in_default : goal.returns-in_default
+returns-in_default c =
+    rw (no-limits c.args.c.now _ refl (λ e. omega arith) (λ e. omega arith) (λ e. omega arith) (λ e. omega arith) (λ e. omega arith) (λ e. omega arith))

@@ -8,6 +8,3 @@ use Rattle.line_fault.proofs.first_bad.Given as goal
 
 abbrev pub invariant-loop-i : goal.invariant-loop-i
 invariant-loop-i l = bad_field l.line ≡ first_not (good_field l.line) l.i (length l.line / 4 - l.i)
-
-abbrev pub decreases-loop-i : goal.decreases-loop-i
-decreases-loop-i l = l.k - l.i

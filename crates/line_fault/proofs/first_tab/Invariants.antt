@@ -7,6 +7,3 @@ use Rattle.line_fault.proofs.first_tab.Given as goal
 
 abbrev pub invariant-loop-i : goal.invariant-loop-i
 invariant-loop-i l = tab_at l.line ≡ first_not (no_tab l.line) l.i (length l.line - l.i)
-
-abbrev pub decreases-loop-i : goal.decreases-loop-i
-decreases-loop-i l = length l.line - l.i

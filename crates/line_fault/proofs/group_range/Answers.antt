@@ -5,7 +5,7 @@ use Rattle.line_fault.proofs.group_range.Goals as goal
 
 pub returns-then-i-eq2 : goal.returns-then-i-eq2
 unfolding group_range
-returns-then-i-eq2 c = rw (eq-eqb _ _ c.if-i-eq2.true, ← c.value.ensures, ← c.at_most.ensures) c.bounds.ensures
+returns-then-i-eq2 c = rw (eq-eqb _ _ c.if-i-eq2.true, ← c.value.ensures, ← c.min.ensures) c.bounds.ensures
 
 pub returns-then-i-eq3 : goal.returns-then-i-eq3
 unfolding group_range

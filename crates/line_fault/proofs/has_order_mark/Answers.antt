@@ -3,9 +3,6 @@ use borrow.Author.Tests.{eq-eqb, ne_eqb}
 use Rattle.line_fault.specs.Fault.{order_mark}
 use Rattle.line_fault.proofs.has_order_mark.Goals as goal
 
-pub returns-then-done-ne0 : goal.returns-then-done-ne0
-returns-then-done-ne0 c = rw (ne_eqb _ _ c.if-done-ne0.true)
-
 pub returns-then-byte-ne239 : goal.returns-then-byte-ne239
 unfolding order_mark
 returns-then-byte-ne239 c = rw (eq-eqb _ _ c.if-done-ne0.false, ← c.byte.ensures, ne_eqb _ _ c.if-byte-ne239.true)

@@ -6,11 +6,9 @@ use Prim.Native.Nat.{ℕ, ◌-◌}
 use lib.ListN.{length, get_or, take, drop}
 use lib.Seq.{take_all}
 use lib.Dec.{eqb}
-use Rattle.model.specs.declared.Digits.{Digits}
-use Rattle.model.specs.declared.Digits.TheVariants.{Number, Bad}
+use Rattle.std.specs.Prelude.{Option, None, Some}
 use Rattle.model.specs.declared.Literal.TheVariants.{Pos, Neg}
 use Rattle.model.specs.declared.Word.TheVariants.{Closing, Malformed}
-use Rattle.model.specs.Sheet.{digits_value}
 use Rattle.model.specs.Assignment.{variable_in, as_literal, word_value}
 use Rattle.line_form.proofs.Words.{zero-names-none, word-says}
 use native.Mathlib.Omega.{arith}
@@ -26,11 +24,11 @@ empty (b ∷ bs) e = absurd (omega arith)
 after : (b : ℕ) (bs : List ℕ) → take (length (b ∷ bs) - 1) (drop 1 (b ∷ bs)) ≡ bs
 after b bs = take_all (length (b ∷ bs) - 1) bs (omega arith)
 
-minus : (l : List ℕ) → (length l ≡ 0 → ⊥) → get_or l 0 0 ≡ 45 → (d : Digits) → digits_value d ≡ variable_in (take (length l - 1) (drop 1 l))
-    → (k : Digits) → d ≡ k → as_literal Neg (digits_value k) ≡ word_value l
+minus : (l : List ℕ) → (length l ≡ 0 → ⊥) → get_or l 0 0 ≡ 45 → (d : Option ℕ) → d ≡ variable_in (take (length l - 1) (drop 1 l))
+    → (k : Option ℕ) → d ≡ k → as_literal Neg (k) ≡ word_value l
 unfolding word_value
 minus [] z e d h k q = absurd (z refl)
-minus (b ∷ bs) z e d h k q = rw (eq-eqb b 45 e) (ap (as_literal Neg) (ap digits_value (sym q) ∙ h ∙ ap variable_in (after b bs)))
+minus (b ∷ bs) z e d h k q = rw (eq-eqb b 45 e) (ap (as_literal Neg) (sym q ∙ h ∙ ap variable_in (after b bs)))
 
 apart : (b : ℕ) → b ≡ 48 → eqb b 45 ≡ false
 apart b e = ne_eqb b 45 (λ q. omega (arith, e, q))
@@ -51,11 +49,11 @@ zeros (b ∷ bs) e f z =
     go true = refl
     go false = refl
 
-plain : (l : List ℕ) → (length l ≡ 0 → ⊥) → (get_or l 0 0 ≡ 45 → ⊥) → (get_or l 0 0 ≡ 48 → ⊥) → (d : Digits) → digits_value d ≡ variable_in l
-    → (k : Digits) → d ≡ k → as_literal Pos (digits_value k) ≡ word_value l
+plain : (l : List ℕ) → (length l ≡ 0 → ⊥) → (get_or l 0 0 ≡ 45 → ⊥) → (get_or l 0 0 ≡ 48 → ⊥) → (d : Option ℕ) → d ≡ variable_in l
+    → (k : Option ℕ) → d ≡ k → as_literal Pos (k) ≡ word_value l
 unfolding word_value
 plain [] z e f d h k q = absurd (z refl)
-plain (b ∷ bs) z e f d h k q = rw (ne_eqb b 45 e, ne_eqb b 48 f) (ap (as_literal Pos) (ap digits_value (sym q) ∙ h))
+plain (b ∷ bs) z e f d h k q = rw (ne_eqb b 45 e, ne_eqb b 48 f) (ap (as_literal Pos) (sym q ∙ h))
 
 -- the clauses by their names
 named : {A B C : Type 0} → A × (B × C) → record { value : A; result_value : B; result_value_2 : C }
@@ -65,10 +63,10 @@ pub returns-then-n-eq0 : goal.returns-then-n-eq0
 returns-then-n-eq0 c = named (word-says c.args.w.now _ (empty c.args.w.now c.if-n-eq0.true))
 
 pub returns-in_default : goal.returns-in_default
-returns-in_default c = named (word-says c.args.w.now _ (minus c.args.w.now c.if-n-eq0.false c.if-w-eq45.true c.variable_in.result c.variable_in.ensures.result_value Bad c.in_default.is))
+returns-in_default c = named (word-says c.args.w.now _ (minus c.args.w.now c.if-n-eq0.false c.if-w-eq45.true c.variable_in.result c.variable_in.ensures None c.in_default.is))
 
 pub returns-then-w-eq45 : goal.returns-then-w-eq45
-returns-then-w-eq45 c = named (word-says c.args.w.now _ (minus c.args.w.now c.if-n-eq0.false c.if-w-eq45.true c.variable_in.result c.variable_in.ensures.result_value (Number _) c.in-Number.is))
+returns-then-w-eq45 c = named (word-says c.args.w.now _ (minus c.args.w.now c.if-n-eq0.false c.if-w-eq45.true c.variable_in.result c.variable_in.ensures (Some _) c.in-Some.is))
 
 pub returns-then-n-eq1 : goal.returns-then-n-eq1
 returns-then-n-eq1 c = named (word-says c.args.w.now _ (closing c.args.w.now c.if-w-eq48.true c.if-n-eq1.true))
@@ -77,7 +75,7 @@ pub returns-then-w-eq48 : goal.returns-then-w-eq48
 returns-then-w-eq48 c = named (word-says c.args.w.now _ (zeros c.args.w.now c.if-w-eq48.true c.if-n-eq1.false c.if-n-eq0.false))
 
 pub returns-in_default-variable_in : goal.returns-in_default-variable_in
-returns-in_default-variable_in c = named (word-says c.args.w.now _ (plain c.args.w.now c.if-n-eq0.false c.if-w-eq45.false c.if-w-eq48.false c.variable_in-2.result c.variable_in-2.ensures.result_value Bad c.in_default-variable_in.is))
+returns-in_default-variable_in c = named (word-says c.args.w.now _ (plain c.args.w.now c.if-n-eq0.false c.if-w-eq45.false c.if-w-eq48.false c.variable_in-2.result c.variable_in-2.ensures None c.in_default-variable_in.is))
 
 pub returns : goal.returns
-returns c = named (word-says c.args.w.now _ (plain c.args.w.now c.if-n-eq0.false c.if-w-eq45.false c.if-w-eq48.false c.variable_in-2.result c.variable_in-2.ensures.result_value (Number _) c.in-Number-variable_in.is))
+returns c = named (word-says c.args.w.now _ (plain c.args.w.now c.if-n-eq0.false c.if-w-eq45.false c.if-w-eq48.false c.variable_in-2.result c.variable_in-2.ensures (Some _) c.in-Some-variable_in.is))

@@ -61,9 +61,6 @@ overflow_add-at-in-loop-at-2 c = omega (arith, k-le c.args.s.now c.loop-at.at c.
 pub overflow_add-at-in-loop-at-3 : goal.overflow_add-at-in-loop-at-3
 overflow_add-at-in-loop-at-3 c = omega (arith, k-le c.args.s.now c.loop-at.at c.word_length-k.result c.loop-at.invariant.0 c.word_length-k.ensures, c.if-at-k-2.false)
 
-pub loop-at-smaller : goal.loop-at-smaller
-loop-at-smaller c = omega (arith, k-le c.args.s.now c.loop-at.at c.word_length-k.result c.loop-at.invariant.0 c.word_length-k.ensures)
-
 pub loop-at-preserved : goal.loop-at-preserved
 loop-at-preserved c =
     let s = c.args.s.now in
@@ -76,6 +73,3 @@ loop-at-preserved c =
       loop.invariant.2 ∙ ap (λ ws. form_after loop.count (say_words ws)) (is-more s loop.at k loop.invariant.0 e more)
           ∙ form-names loop.count _ _ _ (sym c.word_value-w.ensures.value ∙ c.in-Names.is),
     )
-
-pub returns : goal.returns
-returns c = absurd (omega (arith, c.loop-at.invariant.0, c.loop-at-test.false))

@@ -1,17 +1,11 @@
-use Prim.Native.Nat.{◌<◌, ◌+◌, ◌-◌}
-use mathlib.Core.Path.{◌≡◌, ◌∙◌, sym, ap}
-use native.Mathlib.Nat.{sub-zero}
-use lib.ListN.{length, take, drop}
-use Rattle.model.specs.Assignment.{words_of}
-use Rattle.literals.specs.Line.{named, names?}
+use Prim.Native.Nat.{◌<◌, ◌+◌}
+use mathlib.Core.Path.{◌∙◌, sym, ap}
+use lib.ListN.{length}
 use Rattle.line_form.proofs.Words.{k-le, word_size}
 use Rattle.line_form.proofs.Forms.{is_names, not-names}
 use Rattle.literals.proofs.Named.{look-end, look-found, look-last, look-more}
 use native.Mathlib.Omega.{arith}
 use Rattle.literals.proofs.named_before.Goals as goal
-
-pub loop-i-init : goal.loop-i-init
-loop-i-init c = (omega arith, omega arith, rw sub-zero)
 
 pub slice_bounds-word_value-end : goal.slice_bounds-word_value-end
 slice_bounds-word_value-end c = word_size c.args.s.now c.loop-i.at c.word_length-k.result c.loop-i.invariant.0 c.word_length-k.ensures
@@ -36,6 +30,3 @@ overflow_add-at-in-loop-i-2 c = omega (arith, k-le c.args.s.now c.loop-i.at c.wo
 
 pub loop-i-preserved : goal.loop-i-preserved
 loop-i-preserved c = let h : c.loop-i.at + c.word_length-k.result < length c.args.s.now = omega (arith, k-le c.args.s.now c.loop-i.at c.word_length-k.result c.loop-i.invariant.0 c.word_length-k.ensures, c.if-at-k.false) in (omega arith, omega arith, look-more c.args.s.now c.args.v c.loop-i.at c.word_length-k.result c.loop-i.invariant.0 c.word_length-k.ensures c.args.count c.loop-i.i c.loop-i-test.true _ c.loop-i.invariant.2 _ (sym c.word_value.ensures.value ∙ c.in-Names.is) c.variable_of.result c.variable_of.ensures c.if-variable_of-v.false h)
-
-pub returns : goal.returns
-returns c = let z : c.args.count - c.loop-i.i ≡ 0 = omega arith in sym (c.loop-i.invariant.2 ∙ ap (λ n. names? c.args.v (take n (named (words_of (drop c.loop-i.at c.args.s.now))))) z)

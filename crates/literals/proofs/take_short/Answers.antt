@@ -2,8 +2,9 @@ use Prim.Native.Nat.{◌<◌, ◌+◌}
 use mathlib.Core.Path.{◌∙◌, sym, ap}
 use lib.ListN.{length}
 use Rattle.line_form.proofs.Forms.{is_names, not-names}
-use Rattle.literals.proofs.Named.{not_free}
-use Rattle.literals.proofs.Taken.{take-start, take_done, take-end, take-le, take-size, take-named, take-room, take-bad, take_within, take_last, take_more}
+use Rattle.literals.specs.Line.{refusal_of}
+use Rattle.literals.proofs.Named.{is_free}
+use Rattle.literals.proofs.Taken.{take_done, take-end, take-le, take-size, take-named, take-room, take-bad, take_within, take_last, take_more}
 use native.Mathlib.Omega.{arith}
 use Rattle.literals.proofs.take_short.Goals as goal
 
@@ -11,20 +12,8 @@ use Rattle.literals.proofs.take_short.Goals as goal
 named : {A B : Type 0} → A × B → record { value : A; values_after : B }
 named p = record { value = p.0; values_after = p.1 }
 
-pub loop-count-init : goal.loop-count-init
-loop-count-init c = take-start _ _ _
-
-pub slice_bounds-rest-count : goal.slice_bounds-rest-count
-slice_bounds-rest-count c = omega (arith, c.loop-count.invariant.place)
-
-pub slice_bounds-rest-start : goal.slice_bounds-rest-start
-slice_bounds-rest-start c = omega (arith, c.loop-count.invariant.place)
-
 pub slice_bounds-word_value-end : goal.slice_bounds-word_value-end
 slice_bounds-word_value-end c = take-size c.loop-count.invariant c.loop-count-test.true c.word_length-k.ensures
-
-pub put_back-requires : goal.put_back-requires
-put_back-requires c = record { count_bound = omega (arith, c.loop-count.invariant.few, c.loop-count.invariant.place, c.requires); places_below = c.loop-count.invariant.within }
 
 pub returns-in_default : goal.returns-in_default
 returns-in_default c = named (take-end c.loop-count.invariant c.loop-count-test.true c.word_length-k.ensures
@@ -34,14 +23,11 @@ pub place_of-p-requires : goal.place_of-p-requires
 place_of-p-requires c =
     take-named c.loop-count.invariant c.loop-count-test.true c.word_length-k.ensures (sym c.word_value.ensures.value ∙ c.in-Names.is) c.variable_of-v.ensures
 
-pub put_back-requires-in_default-p : goal.put_back-requires-in_default-p
-put_back-requires-in_default-p c = record { count_bound = omega (arith, c.loop-count.invariant.few, c.loop-count.invariant.place, c.requires); places_below = c.loop-count.invariant.within }
-
-pub returns-in_default-p : goal.returns-in_default-p
-returns-in_default-p c =
+pub returns-in-Err : goal.returns-in-Err
+returns-in-Err c =
     let is = sym c.word_value.ensures.value ∙ c.in-Names.is in
     named (take-bad c.loop-count.invariant c.loop-count-test.true c.word_length-k.ensures is c.variable_of-v.ensures c.place_of-p.ensures.value
-    (not_free c.place_of-p.result c.in_default-p.not-Free) _ c.place_refusal.ensures _ c.put_back-in_default-p.ensures)
+    (ap is_free c.in-Err.is) _ (sym (ap refusal_of c.in-Err.is)) _ c.put_back-in-Err.ensures)
 
 pub overflow_sub-places : goal.overflow_sub-places
 overflow_sub-places c =
@@ -54,7 +40,7 @@ bounds-places-count c =
 pub bounds-values-i : goal.bounds-values-i
 bounds-values-i c =
     let is = sym c.word_value.ensures.value ∙ c.in-Names.is in
-    take_within c.loop-count.invariant c.loop-count-test.true c.word_length-k.ensures is c.variable_of-v.ensures c.place_of-p.ensures.value c.in-Free.is
+    take_within c.loop-count.invariant c.loop-count-test.true c.word_length-k.ensures is c.variable_of-v.ensures c.place_of-p.ensures.value c.in-Ok.is
 
 pub bounds-bytes-count : goal.bounds-bytes-count
 bounds-bytes-count c =
@@ -63,10 +49,7 @@ bounds-bytes-count c =
 pub bounds-values-i-in-loop-count : goal.bounds-values-i-in-loop-count
 bounds-values-i-in-loop-count c =
     let is = sym c.word_value.ensures.value ∙ c.in-Names.is in
-    take_within c.loop-count.invariant c.loop-count-test.true c.word_length-k.ensures is c.variable_of-v.ensures c.place_of-p.ensures.value c.in-Free.is
-
-pub overflow_add-count : goal.overflow_add-count
-overflow_add-count c = omega (arith, c.loop-count-test.true)
+    take_within c.loop-count.invariant c.loop-count-test.true c.word_length-k.ensures is c.variable_of-v.ensures c.place_of-p.ensures.value c.in-Ok.is
 
 pub overflow_add-at : goal.overflow_add-at
 overflow_add-at c = omega (arith, take-le c.loop-count.invariant c.loop-count-test.true c.word_length-k.ensures)
@@ -74,7 +57,7 @@ overflow_add-at c = omega (arith, take-le c.loop-count.invariant c.loop-count-te
 pub returns-then-at-k : goal.returns-then-at-k
 returns-then-at-k c =
     let is = sym c.word_value.ensures.value ∙ c.in-Names.is in
-    let both = take_last c.loop-count.invariant c.loop-count-test.true c.word_length-k.ensures is c.variable_of-v.ensures c.place_of-p.ensures.value c.in-Free.is
+    let both = take_last c.loop-count.invariant c.loop-count-test.true c.word_length-k.ensures is c.variable_of-v.ensures c.place_of-p.ensures.value c.in-Ok.is
     c.value_for.ensures c.if-at-k.true in
     record { value = both.0; values_after = both.1 }
 
@@ -84,15 +67,12 @@ overflow_add-at-in-loop-count c = omega (arith, take-le c.loop-count.invariant c
 pub overflow_add-at-in-loop-count-2 : goal.overflow_add-at-in-loop-count-2
 overflow_add-at-in-loop-count-2 c = omega (arith, take-le c.loop-count.invariant c.loop-count-test.true c.word_length-k.ensures, c.if-at-k.false)
 
-pub loop-count-smaller : goal.loop-count-smaller
-loop-count-smaller c = omega (arith, c.loop-count-test.true)
-
 pub loop-count-preserved : goal.loop-count-preserved
 loop-count-preserved c =
     let word = c.word_length-k in
     let is = sym c.word_value.ensures.value ∙ c.in-Names.is in
     let more : c.loop-count.at + word.result < length c.args.s.now = omega (arith, take-le c.loop-count.invariant c.loop-count-test.true word.ensures, c.if-at-k.false) in
-    take_more c.loop-count.invariant c.loop-count-test.true word.ensures is c.variable_of-v.ensures c.place_of-p.ensures.value c.in-Free.is
+    take_more c.loop-count.invariant c.loop-count-test.true word.ensures is c.variable_of-v.ensures c.place_of-p.ensures.value c.in-Ok.is
     c.value_for.ensures more c.requires
 
 pub returns : goal.returns

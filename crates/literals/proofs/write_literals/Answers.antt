@@ -2,18 +2,12 @@ use Prim.Native.Nat.{◌<◌, ◌+◌}
 use mathlib.Core.Path.{◌∙◌, sym, ap}
 use lib.ListN.{length}
 use Rattle.line_form.proofs.Forms.{is_names, not-names}
-use Rattle.literals.proofs.Named.{write-start, write_done, write-le, write-size, write-end, write-named, write-fits, write-last, write-more}
+use Rattle.literals.proofs.Named.{write-start, write-le, write-size, write-end, write-named, write-fits, write-last, write-more}
 use native.Mathlib.Omega.{arith}
 use Rattle.literals.proofs.write_literals.Goals as goal
 
 pub loop-count-init : goal.loop-count-init
 loop-count-init c = write-start _ _ _ c.requires
-
-pub slice_bounds-rest-count : goal.slice_bounds-rest-count
-slice_bounds-rest-count c = omega (arith, c.loop-count.invariant.place)
-
-pub slice_bounds-rest-start : goal.slice_bounds-rest-start
-slice_bounds-rest-start c = omega (arith, c.loop-count.invariant.place)
 
 pub slice_bounds-word_value-end : goal.slice_bounds-word_value-end
 slice_bounds-word_value-end c = write-size c.loop-count.invariant c.loop-count-test.true c.word_length-k.ensures
@@ -36,9 +30,6 @@ bounds-values-i c =
       write-fits c.loop-count.invariant c.loop-count-test.true c.word_length-k.ensures is c.variable_of.ensures,
     )
 
-pub overflow_add-count : goal.overflow_add-count
-overflow_add-count c = omega (arith, c.loop-count-test.true)
-
 pub overflow_add-at : goal.overflow_add-at
 overflow_add-at c = omega (arith, write-le c.loop-count.invariant c.loop-count-test.true c.word_length-k.ensures)
 
@@ -53,14 +44,8 @@ overflow_add-at-in-loop-count c = omega (arith, write-le c.loop-count.invariant 
 pub overflow_add-at-in-loop-count-2 : goal.overflow_add-at-in-loop-count-2
 overflow_add-at-in-loop-count-2 c = omega (arith, write-le c.loop-count.invariant c.loop-count-test.true c.word_length-k.ensures, c.if-at-k.false)
 
-pub loop-count-smaller : goal.loop-count-smaller
-loop-count-smaller c = omega (arith, c.loop-count-test.true)
-
 pub loop-count-preserved : goal.loop-count-preserved
 loop-count-preserved c =
     let more : c.loop-count.at + c.word_length-k.result < length c.args.s.now = omega (arith, write-le c.loop-count.invariant c.loop-count-test.true c.word_length-k.ensures, c.if-at-k.false) in
     write-more c.loop-count.invariant c.loop-count-test.true c.word_length-k.ensures (sym c.word_value.ensures.value ∙ c.in-Names.is) c.variable_of.ensures
     c.value_for.ensures more
-
-pub returns : goal.returns
-returns c = write_done c.loop-count.invariant (omega (arith, c.loop-count-test.false))

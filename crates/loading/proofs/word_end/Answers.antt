@@ -1,15 +1,27 @@
-use Rattle.std.proofs.Common.{arith, rules}
-use Rattle.loading.proofs.Words.{end_step, end-space, end_line_lem, end-past}
+-- `word_end` is the place of the first space or byte 10, or the length. Assumes nothing.
+use mathlib.Core.Path.{refl, ap, ◌∙◌}
+use mathlib.Core.Bool.{Bool, ◌||◌, not}
+use Prim.Native.Nat.{ℕ}
+use native.Mathlib.Omega.{arith}
+use borrow.Author.Rules.{rules}
+use borrow.Author.Tests.{tests}
+use lib.Dec.{eqb}
+use lib.ListN.{length}
+use Rattle.std.specs.Option.{unwrap_or}
+use Rattle.std.proofs.lemmas.Iterator.{YieldsList-from_slice}
+use Rattle.std.proofs.lemmas.Iterator.Search.{position_from_yields_List}
+use Rattle.std.proofs.lemmas.List.Sums.{prefix_len-le-length}
+use Rattle.model.proofs.Search.{position-or-len, counts-before}
+use Rattle.loading.specs.Loading.{word_end}
 use Rattle.loading.proofs.word_end.Goals as goal
 
-pub returns-then-s-i-eq32 : goal.returns-then-s-i-eq32
-returns-then-s-i-eq32 c = record { upper_bound = search rules; value = omega (arith, c.loop-i.invariant.1, end-space c.args.s.now c.loop-i.i c.loop-i-test.true c.if-s-i-eq32.true) }
-
-pub returns-then-s-i-eq10 : goal.returns-then-s-i-eq10
-returns-then-s-i-eq10 c = record { upper_bound = search rules; value = omega (arith, c.loop-i.invariant.1, end_line_lem c.args.s.now c.loop-i.i c.loop-i-test.true c.if-s-i-eq10.true) }
-
-pub loop-i-preserved : goal.loop-i-preserved
-loop-i-preserved c = (search rules, omega (arith, c.loop-i.invariant.1, end_step c.args.s.now c.loop-i.i c.loop-i-test.true c.if-s-i-eq32.false c.if-s-i-eq10.false))
-
 pub returns : goal.returns
-returns c = record { upper_bound = search rules; value = omega (arith, c.loop-i.invariant.1, end-past c.args.s.now c.loop-i.i c.loop-i-test.false) }
+returns c =
+    let p : ℕ → Bool = λ b. eqb b 32 || eqb b 10 in
+    let xs = c.args.s.now in
+    let h = position_from_yields_List p _ _ c.position.result c.position.ensures.ran (YieldsList-from_slice xs cc) (λ x b q k. search (rules, tests)) in
+    let e = c.unwrap_or.ensures ∙ ap (λ o. unwrap_or o (length xs)) h ∙ position-or-len p xs in
+    record {
+      upper_bound = omega (arith, e, prefix_len-le-length (λ x. not (p x)) xs);
+      value = e ∙ counts-before p word_end refl (λ b bs. refl) xs;
+    }

@@ -1,9 +1,6 @@
 -- `ended` meets its contract by what `number` keeps. Assumes nothing.
-use Rattle.refutation.proofs.Steps.{keep-each, keep_same}
+use Rattle.refutation.proofs.Steps.{keep-each}
 use Rattle.lrat.proofs.ended.Goals as goal
 
 pub returns-then-r-2 : goal.returns-then-r-2
 returns-then-r-2 c = keep-each c.refused.ensures
-
-pub returns-then-r-eq-LETTER_D : goal.returns-then-r-eq-LETTER_D
-returns-then-r-eq-LETTER_D c = keep_same c.after.ensures

@@ -5,5 +5,5 @@ use Rattle.lrat.proofs.number.Goals as goal
 pub returns-then-r-gt-LARGEST : goal.returns-then-r-gt-LARGEST
 returns-then-r-gt-LARGEST c = keep-each c.refused.ensures
 
-pub returns : goal.returns
-returns c = keep-each c.refused-2.ensures
+pub returns-in-LetterD : goal.returns-in-LetterD
+returns-in-LetterD c = keep-each c.refused-in-LetterD.ensures

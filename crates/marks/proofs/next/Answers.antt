@@ -1,16 +1,8 @@
-use Prim.Native.Nat.{◌/◌, ◌%◌, ◌^◌, ◌<◌}
+use Prim.Native.Nat.{◌<◌}
 use mathlib.Core.Path.{refl, sym, ◌∙◌}
-use lib.ListN.{get_or}
-use lib.Count.{trailing_le}
 use native.Mathlib.Omega.{arith}
 use Rattle.marks.proofs.Bits.{none-next, some_next, next_skips, next_here, next_past}
 use Rattle.marks.proofs.next.Goals as goal
-
-pub overflow_cast-e : goal.overflow_cast-e
-overflow_cast-e c = omega (arith, trailing_le 64 (get_or c.args.marks.now (c.loop-q.q / 64) 0 / 2 ^ (c.loop-q.q % 64)))
-
-pub overflow_add-q : goal.overflow_add-q
-overflow_add-q c = omega (arith, trailing_le 64 (get_or c.args.marks.now (c.loop-q.q / 64) 0 / 2 ^ (c.loop-q.q % 64)))
 
 pub returns-then-q-e : goal.returns-then-q-e
 returns-then-q-e c =

@@ -9,7 +9,7 @@ use denote.Shadow.{shadow}
 use denote.Array.{each}
 use borrow.Author.Rules.{rules}
 use Rattle.model.specs.declared.Constraint.{Constraint}
-use Rattle.model.specs.Lists.{every}
+use Rattle.std.specs.List.{list_all}
 use Rattle.model.specs.Limits.{limits}
 use Rattle.model.specs.Model.{constraint_sized}
 use Rattle.model.proofs.Lists.{and_both}
@@ -19,11 +19,11 @@ use Rattle.model.proofs.whole.Goals as goal
 one : (c : Constraint) (v : Val) → shadow (the_row.own_val c (v ∷ [])) → length c.groups ≡ limits.members
 one c v s = search rules
 
-all : (cs : List Constraint) (vs : List Val) → shadow (each Constraint the_row.own_val cs vs) → T (every constraint_sized cs)
+all : (cs : List Constraint) (vs : List Val) → shadow (each Constraint the_row.own_val cs vs) → T (list_all constraint_sized cs)
 all [] vs s = tt
 all (c ∷ cs) [] s = absurd s
 all (c ∷ cs) (v ∷ vs) s =
-    and_both (constraint_sized c) (every constraint_sized cs) (le→leb limits.members (length c.groups) (omega (arith, one c v s.0))) (all cs vs s.1)
+    and_both (constraint_sized c) (list_all constraint_sized cs) (le→leb limits.members (length c.groups) (omega (arith, one c v s.0))) (all cs vs s.1)
 
 pub returns : goal.returns
 returns c =

@@ -1,12 +1,11 @@
 -- `outputs_of` is the number of a group's outputs. Assumes nothing.
-use mathlib.Core.Path.{sym, ap, subst, ◌∙◌}
-use Prim.Native.Nat.{ℕ, ◌≤◌}
+use mathlib.Core.Path.{sym, ap, ◌∙◌}
 use native.Mathlib.Omega.{arith}
 use borrow.Author.Tests.{not-true, not-false}
 use Rattle.model.specs.Limits.{limits}
 use Rattle.model.specs.Totalizer.{tree_output_count}
 use Rattle.encoding_laws.proofs.Bounds.{outputs_mono}
-use Rattle.numbering.proofs.Totalizers.{totalizer-parts, none-outputs, some-outputs, within_word}
+use Rattle.numbering.proofs.Totalizers.{totalizer-parts, none-outputs, some-outputs, within_word, outputs-few}
 use Rattle.numbering.proofs.outputs_of.Goals as goal
 
 pub returns-then-not-t : goal.returns-then-not-t
@@ -22,5 +21,5 @@ returns c =
     let k = c.totalizer_of-t.ensures.size_le_word in
     let e = c.output_count.ensures ∙ within_word _ k in (
       e ∙ ap tree_output_count p.0 ∙ sym (some-outputs g (sym p.3 ∙ not-false _ c.if-not-t.false)),
-      subst (λ (x : ℕ). x ≤ tree_output_count limits.word) (sym e) (outputs_mono _ limits.word k),
+      omega (arith, e, outputs_mono _ limits.word k, outputs-few),
     )

@@ -17,7 +17,7 @@ unfolding at_most
 high g r e = rw (size-ones g.fixed) e
 
 pub returns-then-low-gt0 : goal.returns-then-low-gt0
-returns-then-low-gt0 c = record { value = totalizer-low c.args.g _ _ _ c.open_count-size.ensures.0 (low c.args.g _ c.less-low.ensures) (high c.args.g _ c.less-high.ensures) c.if-low-gt0.true; size_le_word = c.open_count-size.ensures.1 }
+returns-then-low-gt0 c = record { value = totalizer-low c.args.g _ _ _ c.open_count-size.ensures.0 (low c.args.g _ c.saturating_sub-low.ensures) (high c.args.g _ c.saturating_sub-high.ensures) c.if-low-gt0.true; size_le_word = c.open_count-size.ensures.1 }
 
 pub returns-else-low-gt0 : goal.returns-else-low-gt0
-returns-else-low-gt0 c = record { value = totalizer-high c.args.g _ _ _ c.open_count-size.ensures.0 (low c.args.g _ c.less-low.ensures) (high c.args.g _ c.less-high.ensures) c.if-low-gt0.false; size_le_word = c.open_count-size.ensures.1 }
+returns-else-low-gt0 c = record { value = totalizer-high c.args.g _ _ _ c.open_count-size.ensures.0 (low c.args.g _ c.saturating_sub-low.ensures) (high c.args.g _ c.saturating_sub-high.ensures) c.if-low-gt0.false; size_le_word = c.open_count-size.ensures.1 }

@@ -4,7 +4,7 @@ use Prim.Native.Nat.{ℕ, ◌+◌, ◌<◌}
 use native.Mathlib.Numerals.{add-one}
 use native.Mathlib.Omega.{arith}
 use lib.ListN.{length, get_or, set, take}
-use lib.Seq.{sets, length-sets, take-suc, take_all, length-take-le}
+use lib.Seq.{sets, take-suc, length-take-le}
 use Rattle.packing.proofs.Laid.{sets-append}
 use Rattle.packing.proofs.put_members.Goals as goal
 
@@ -15,22 +15,7 @@ next xs ids at i h =
     ∙ sets-append xs (take i ids) (get_or ids i 0 ∷ []) at
     ∙ ap (sets xs at) (sym last)
 
-pub bounds-words-at : goal.bounds-words-at
-bounds-words-at c =
-    let l = c.loop-i in
-    omega (arith, ap length l.invariant.1, length-sets c.args.words.now c.args.at (take l.i c.args.ids))
-
 pub loop-i-preserved : goal.loop-i-preserved
 loop-i-preserved c =
     let l = c.loop-i in
-    (omega arith, ap (λ (r : List ℕ). set r (c.args.at + l.i) (get_or c.args.ids l.i 0)) l.invariant.1 ∙ next c.args.words.now c.args.ids c.args.at l.i (omega arith))
-
-pub shape_of-words : goal.shape_of-words
-shape_of-words c =
-    let l = c.loop-i in
-    ap length l.invariant.1 ∙ length-sets c.args.words.now c.args.at (take l.i c.args.ids)
-
-pub returns : goal.returns
-returns c =
-    let l = c.loop-i in
-    record { words_after = l.invariant.1 ∙ ap (sets c.args.words.now c.args.at) (take_all l.i c.args.ids (omega arith)); ids_len = omega arith }
+    rw (l.invariant, c.from.ensures) (next c.args.words.now c.args.ids.now c.args.at l.i (omega arith))

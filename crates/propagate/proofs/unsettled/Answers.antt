@@ -6,9 +6,6 @@ use Rattle.propagate.proofs.unsettled.Goals as goal
 pub returns-then-not-in_range : goal.returns-then-not-in_range
 returns-then-not-in_range c = unsettled_20 c.args.m (range-false c.args.m _ c.in_range.ensures c.if-not-in_range.true)
 
-pub passed-p-requires : goal.passed-p-requires
-passed-p-requires c = range-true c.args.m _ c.in_range.ensures c.if-not-in_range.false
-
 pub returns-then-not-p : goal.returns-then-not-p
 returns-then-not-p c =
     let m = c.args.m in

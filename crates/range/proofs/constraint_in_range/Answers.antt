@@ -4,22 +4,23 @@ use mathlib.Core.Path.{◌≡◌, ◌∙◌, sym, ap}
 use mathlib.Core.Bool.{Bool, true, false, ◌&&◌}
 use mathlib.Core.List.{List}
 use lib.ListN.{take}
-use Rattle.model.specs.Lists.{every, between, distinct}
+use Rattle.std.specs.List.{list_all}
+use Rattle.model.specs.Lists.{between, distinct}
 use Rattle.model.specs.Clauses.{member_count, groups_of}
 use Rattle.model.specs.Model.{constraint_in_range}
 use Rattle.range.proofs.constraint_in_range.Goals as goal
 
 module _ (s : ℕ) (ids : List ℕ) (j : ℕ) (a r : Bool) (e : r ≡ a) where
-  first : r ≡ false → false ≡ (a && every (between 1 s) (take j ids) && distinct (take j ids))
+  first : r ≡ false → false ≡ (a && list_all (between 1 s) (take j ids) && distinct (take j ids))
   first f = rw (sym e ∙ f)
 
-  module _ (t : r ≡ true) (k : ℕ) (q : k ≡ j) (b : Bool) (p : b ≡ every (between 1 s) (take k ids)) where
-    second : b ≡ false → false ≡ (a && every (between 1 s) (take j ids) && distinct (take j ids))
-    second f = rw (sym e ∙ t, sym (ap (λ (x : ℕ). every (between 1 s) (take x ids)) q) ∙ sym p ∙ f)
+  module _ (t : r ≡ true) (k : ℕ) (q : k ≡ j) (b : Bool) (p : b ≡ list_all (between 1 s) (take k ids)) where
+    second : b ≡ false → false ≡ (a && list_all (between 1 s) (take j ids) && distinct (take j ids))
+    second f = rw (sym e ∙ t, sym (ap (λ (x : ℕ). list_all (between 1 s) (take x ids)) q) ∙ sym p ∙ f)
 
-    third : b ≡ true → (d : Bool) → d ≡ distinct (take k ids) → d ≡ (a && every (between 1 s) (take j ids) && distinct (take j ids))
+    third : b ≡ true → (d : Bool) → d ≡ distinct (take k ids) → d ≡ (a && list_all (between 1 s) (take j ids) && distinct (take j ids))
     third f d g =
-        rw (sym e ∙ t, sym (ap (λ (x : ℕ). every (between 1 s) (take x ids)) q) ∙ sym p ∙ f) (g ∙ ap (λ (x : ℕ). distinct (take x ids)) q)
+        rw (sym e ∙ t, sym (ap (λ (x : ℕ). list_all (between 1 s) (take x ids)) q) ∙ sym p ∙ f) (g ∙ ap (λ (x : ℕ). distinct (take x ids)) q)
 
 pub returns-then-not-code_in_range : goal.returns-then-not-code_in_range
 unfolding groups_of constraint_in_range

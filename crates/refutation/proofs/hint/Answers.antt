@@ -1,6 +1,6 @@
 -- `hint` keeps what a true clause says where every marked word is false. Assumes nothing.
-use Rattle.std.proofs.Common.{◌∙◌}
-use Rattle.refutation.proofs.Steps.{keep-each, conflict-kept, forced-kept}
+use mathlib.Core.Path.{refl}
+use Rattle.refutation.proofs.Steps.{keep-each, forced-kept}
 use Rattle.refutation.proofs.hint.Goals as goal
 
 pub returns-then-index-i : goal.returns-then-index-i
@@ -15,14 +15,8 @@ returns-then-marks-k c = keep-each c.refuse-then-marks-k.ensures.holds
 pub returns-in-Nothing : goal.returns-in-Nothing
 returns-in-Nothing c = keep-each c.refuse-in-Nothing.ensures.holds
 
-pub returns-in-Conflict : goal.returns-in-Conflict
-returns-in-Conflict c = record {
-  keeps = λ a h.
-      conflict-kept h _ _ c.wide-c.ensures c.if-c-eq0.false _ c.scan_clause-found.ensures c.in-Conflict.is;
-}
-
 pub returns-else-marks-k : goal.returns-else-marks-k
 returns-else-marks-k c = record {
   keeps = λ a h.
-      forced-kept h _ _ c.wide-c.ensures c.if-c-eq0.false _ c.scan_clause-found.ensures _ _ c.in-Forces.is (c.wide-k.ensures ∙ c.flip.ensures) c.if-marks-k.false;
+      forced-kept h _ _ refl c.if-c-eq0.false _ c.scan_clause-found.ensures _ _ c.in-Forces.is c.flip-k.ensures c.if-marks-k.false;
 }

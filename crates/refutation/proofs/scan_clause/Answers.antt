@@ -8,4 +8,4 @@ width b n = omega arith
 
 pub returns : goal.returns
 unfolding stored_true
-returns c = λ a t m. c.scan.ensures a (rw (width, c.wide-n.ensures) t) m
+returns c = λ a t m. c.scan.ensures a (rw width t) m

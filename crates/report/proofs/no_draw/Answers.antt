@@ -1,19 +1,21 @@
--- `no_draw` adds one text. Assumes nothing.
+-- `no_draw`: one text. Assumes nothing.
 use lib.Dec.{lit≤}
-use Rattle.report.proofs.Laws.{start, add-text, said}
 use Rattle.report.specs.Messages.{bytes, no_draw_text}
+use Rattle.report.proofs.Laws.{start, said, add-text}
 use Rattle.report.proofs.no_draw.Goals as goal
-
--- the clauses by their names
-named : {A B : Type 0} → A × B → record { value : A; counted : B }
-named p = record { value = p.0; counted = p.1 }
 
 pub returns-then-certified : goal.returns-then-certified
 unfolding no_draw_text
 returns-then-certified c =
-    named (rw c.if-certified.true (said (lit≤ tt) (add-text (bytes "no draw: certified\n") c.add.ensures (start c.empty.ensures))))
+    rw c.if-certified.true
+    (said (lit≤ tt)
+    (add-text (bytes "no draw: certified\n") c.add.ensures
+    (start c.empty.ensures)))
 
 pub returns : goal.returns
 unfolding no_draw_text
 returns c =
-    named (rw c.if-certified.false (said (lit≤ tt) (add-text (bytes "no draw: settled out\n") c.add-2.ensures (start c.empty-2.ensures))))
+    rw c.if-certified.false
+    (said (lit≤ tt)
+    (add-text (bytes "no draw: settled out\n") c.add-2.ensures
+    (start c.empty-2.ensures)))

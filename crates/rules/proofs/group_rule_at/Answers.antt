@@ -1,25 +1,14 @@
--- `group_rule_at` applies the group rule to the group at place i. Assumes nothing.
-use Prim.Native.Nat.{ℕ, ◌+◌, ◌-◌}
-use mathlib.Core.Path.{◌≡◌, ap, ◌∙◌}
-use Rattle.model.specs.Lists.{on_place}
+-- `group_rule_at` stores at the place of the group, where there is one. Assumes nothing.
+use Rattle.std.proofs.Common.{◌+◌, arith}
+use Rattle.model.specs.Model.{zero_group}
 use Rattle.model.specs.Propagate.{group_rule, group_rule_at}
-use Rattle.table.specs.Table.{zipped}
-use Rattle.model.specs.Limits.{limits}
-use Rattle.table.proofs.Arrays.{rule-stored, zipped-length}
-use Rattle.rules.proofs.Rules.{group-past}
-use native.Mathlib.Omega.{arith}
+use Rattle.table.proofs.Rules.{stored, not-there}
 use Rattle.rules.proofs.group_rule_at.Goals as goal
 
-before : (i : ℕ) → i ≡ i + 1 - 1
-before i = omega arith
+pub returns-then-i-lt-GROUPS : goal.returns-then-i-lt-GROUPS
+unfolding group_rule_at zero_group
+returns-then-i-lt-GROUPS c = stored c.args.t.now (c.args.i + 1) c.args.i (omega arith) group_rule _ c.applied.ensures
 
-pub returns-then-i-ge-GROUPS : goal.returns-then-i-ge-GROUPS
-returns-then-i-ge-GROUPS c =
-    let z = c.sized.ensures in
-    group-past c.args.i _ (zipped-length limits.groups _ _ _ _ z.0.0 z.0.1 z.1.0 z.1.1) (omega arith)
-
-pub returns : goal.returns
+pub returns-else-i-lt-GROUPS : goal.returns-else-i-lt-GROUPS
 unfolding group_rule_at
-returns c =
-    rule-stored c.args.fixed.now c.args.possible.now c.args.low.now c.args.high.now c.args.i group_rule c.applied-g.result c.applied-g.ensures
-    ∙ ap (λ (k : ℕ). on_place k group_rule (zipped c.args.fixed.now c.args.possible.now c.args.low.now c.args.high.now)) (before c.args.i)
+returns-else-i-lt-GROUPS c = not-there c.args.t.now (c.args.i + 1) c.args.i (omega arith) group_rule (omega arith)

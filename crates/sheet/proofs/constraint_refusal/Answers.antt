@@ -6,7 +6,8 @@ use mathlib.Core.Bool.{Bool, true, false, cond, not}
 use mathlib.Core.List.{List}
 use lib.Dec.{eqb}
 use lib.ListN.{length, take}
-use Rattle.model.specs.Lists.{every, between, distinct, stop}
+use Rattle.std.specs.List.{list_all}
+use Rattle.model.specs.Lists.{between, distinct, stop}
 use Rattle.model.specs.Clauses.{groups_of}
 use Rattle.model.specs.Model.{code_in_range}
 use Rattle.model.specs.Sheet.{value_at, count_from, group_count, first_group, constraint_from, constraint_refusal}
@@ -39,8 +40,8 @@ module _ (l : List ℕ) (code count : ℕ) (p : code ≡ value_at l 1) (q : coun
   small = member-bound (value_at l 1) (count_from l) (true-T _ in_range_lem)
 
   module _ (s kind first k : ℕ) (a : kind ≡ value_at l 0) (kind_3 : kind ≡ 3) (b : first ≡ first_group l) (c : k ≡ group_count l) (fields : length l / 4 ≡ first + k)
-      (groups : List ℕ) (d : groups ≡ (constraint_from l).groups) (x : Bool) (f : x ≡ every (between 1 s) (take k groups)) where
-    judged : constraint_refusal s l ≡ stop (not (every (between 1 s) (take k groups))) 7 (stop (not (distinct (take k groups))) 9 0)
+      (groups : List ℕ) (d : groups ≡ (constraint_from l).groups) (x : Bool) (f : x ≡ list_all (between 1 s) (take k groups)) where
+    judged : constraint_refusal s l ≡ stop (not (list_all (between 1 s) (take k groups))) 7 (stop (not (distinct (take k groups))) 9 0)
     unfolding constraint_refusal
     judged =
         rw (eq-eqb (value_at l 0) 3 (sym a ∙ kind_3), in_range_lem, eq-eqb (length l / 4) (first_group l + group_count l) (fields ∙ ap₂ (λ (u v : ℕ). u + v) b c), groups_are l, c, d)

@@ -2,19 +2,18 @@ use Prim.Native.Nat.{ℕ, ◌/◌}
 use mathlib.Core.Path.{◌≡◌}
 use mathlib.Core.Bool.{Bool, true, false, ◌&&◌}
 use mathlib.Core.List.{List}
-use native.Mathlib.Nat.{sub-zero}
 use lib.Dec.{leb, eqb}
 use lib.ListN.{length}
-use Rattle.model.specs.declared.Digits.{Digits}
-use Rattle.model.specs.Sheet.{field_at, field_value, digits_value, field_refusal, if_none, value_at, is_mark_column, good_field, form_refusal}
+use Rattle.std.specs.Prelude.{Option}
+use Rattle.model.specs.Sheet.{field_at, field_value, field_refusal, if_none, value_at, is_mark_column, good_field, form_refusal}
 use Rattle.model.proofs.Loops.{range-goes, range-stops, range-done}
 use native.Mathlib.Omega.{arith}
 use borrow.Author.Tests.{eq-eqb, ne_eqb}
 use Rattle.sheet.proofs.form_refusal.Goals as goal
 
 -- field i has the bytes f, which say r, the case k
-taken : (l : List ℕ) (i kind : ℕ) (f : List ℕ) (mark : Bool) (r k : Digits) → kind ≡ value_at l 0 → f ≡ field_at l i → mark ≡ (leb 4 i && eqb kind 2)
-    → if_none 4 (digits_value r) ≡ field_refusal (field_value f) mark → r ≡ k → good_field l i ≡ eqb (if_none 4 (digits_value k)) 0
+taken : (l : List ℕ) (i kind : ℕ) (f : List ℕ) (mark : Bool) (r k : Option ℕ) → kind ≡ value_at l 0 → f ≡ field_at l i → mark ≡ (leb 4 i && eqb kind 2)
+    → if_none 4 r ≡ field_refusal (field_value f) mark → r ≡ k → good_field l i ≡ eqb (if_none 4 k) 0
 unfolding good_field is_mark_column
 taken l i kind f mark r k first bytes column e q = rw (← first, ← bytes, ← column, ← e, q)
 
@@ -26,17 +25,13 @@ pub returns-then-n-ne0 : goal.returns-then-n-ne0
 unfolding form_refusal
 returns-then-n-ne0 c = simp (ne_eqb _ _ c.if-n-eq0.false, ne_eqb _ _ c.if-n-ne0.true)
 
-pub loop-i-init : goal.loop-i-init
-loop-i-init c = rw sub-zero
-
 pub returns-in_default : goal.returns-in_default
 unfolding form_refusal
 returns-in_default c =
     let line = c.args.line.now in
     let loop = c.loop-i in
     let bad : good_field line loop.i ≡ false =
-    taken _ _ _ _ _ _ _ c.value-kind.ensures c.field.ensures
-    c.is_mark_column.ensures c.number_in.ensures.0 c.in_default.is in
+    taken _ _ _ _ _ _ _ c.value-kind.ensures c.field.ensures c.is_mark_column.ensures c.number_in.ensures.0 c.in_default.is in
     rw (
       ne_eqb _ _ c.if-n-eq0.false,
       eq-eqb _ _ c.if-n-ne0.false,
@@ -48,8 +43,7 @@ loop-i-preserved c =
     let line = c.args.line.now in
     let loop = c.loop-i in
     let good : good_field line loop.i ≡ true =
-    taken _ _ _ _ _ _ _ c.value-kind.ensures c.field.ensures
-    c.is_mark_column.ensures c.number_in.ensures.0 c.in-Number.is in
+    taken _ _ _ _ _ _ _ c.value-kind.ensures c.field.ensures c.is_mark_column.ensures c.number_in.ensures.0 c.in-Some.is in
     range-goes (good_field line) _ (length line / 4) loop.i loop.invariant (omega arith) good
 
 pub returns : goal.returns

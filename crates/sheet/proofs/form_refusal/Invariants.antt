@@ -2,12 +2,10 @@
 use Prim.Native.Nat.{◌-◌, ◌/◌}
 use mathlib.Core.Path.{◌≡◌}
 use lib.ListN.{length}
-use Rattle.model.specs.Lists.{every, range}
+use Rattle.std.specs.List.{list_all}
+use Rattle.model.specs.Lists.{range}
 use Rattle.model.specs.Sheet.{good_field}
 use Rattle.sheet.proofs.form_refusal.Given as goal
 
 abbrev pub invariant-loop-i : goal.invariant-loop-i
-invariant-loop-i l = every (good_field l.line) (range 0 (length l.line / 4)) ≡ every (good_field l.line) (range l.i (length l.line / 4 - l.i))
-
-abbrev pub decreases-loop-i : goal.decreases-loop-i
-decreases-loop-i l = l.k - l.i
+invariant-loop-i l = list_all (good_field l.line) (range 0 (length l.line / 4)) ≡ list_all (good_field l.line) (range l.i (length l.line / 4 - l.i))

@@ -23,18 +23,17 @@ mark-m-requires c =
     (g.0, g.1, omega (arith, g.2), leb→le (mark_at l e) 2 (every-range (good_mark l) 0 c.args.n (true-T _ c.requires.2) e (omega arith) (omega arith)))
 
 pub with_bit-fixed-requires : goal.with_bit-fixed-requires
-with_bit-fixed-requires c = (omega arith, rw c.loop-e.invariant.1 (where_lt _ _))
+with_bit-fixed-requires c = (omega arith, rw c.loop-e.invariant.0 (where_lt _ _))
 
 pub with_bit-possible-requires : goal.with_bit-possible-requires
-with_bit-possible-requires c = (omega arith, rw c.loop-e.invariant.2 (where_lt _ _))
+with_bit-possible-requires c = (omega arith, rw c.loop-e.invariant.1 (where_lt _ _))
 
 pub loop-e-preserved : goal.loop-e-preserved
 loop-e-preserved c = let h = c.mark-m.ensures in (
-  search rules,
-  c.with_bit-fixed.ensures ∙ simp (h, c.loop-e.invariant.1) (sym (word_more (λ k. eqb (mark_at c.args.line.now k) 2) c.loop-e.e)),
-  c.with_bit-possible.ensures ∙ simp (h, c.loop-e.invariant.2) (sym (word_more (λ k. not (eqb (mark_at c.args.line.now k) 0)) c.loop-e.e)),
+  c.with_bit-fixed.ensures ∙ simp (h, c.loop-e.invariant.0) (sym (word_more (λ k. eqb (mark_at c.args.line.now k) 2) c.loop-e.e)),
+  c.with_bit-possible.ensures ∙ simp (h, c.loop-e.invariant.1) (sym (word_more (λ k. not (eqb (mark_at c.args.line.now k) 0)) c.loop-e.e)),
 )
 
 pub returns : goal.returns
 unfolding group_from
-returns c = let z : c.loop-e.e ≡ c.args.n = omega arith in simp (c.loop-e.invariant.1, c.loop-e.invariant.2, c.value.ensures, c.value-2.ensures, z)
+returns c = let z : c.loop-e.e ≡ c.args.n = omega arith in simp (c.loop-e.invariant.0, c.loop-e.invariant.1, c.value.ensures, c.value-2.ensures, z)

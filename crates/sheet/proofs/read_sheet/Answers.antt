@@ -1,5 +1,7 @@
-use mathlib.Core.Path.{◌∙◌, sym}
-use Rattle.model.specs.Sheet.{read_sheet, after_last}
+use Prim.Native.Nat.{ℕ, ◌+◌}
+use mathlib.Core.Path.{◌∙◌, sym, ap}
+use Rattle.model.specs.Sheet.{read_sheet, after_last, refused_sheet}
+use Rattle.sheet.proofs.Refusals.{positive, accepted}
 use Rattle.sheet.proofs.Reading.{at-start, constraint-place, constraint-small, constraint-line, group-line, at-end, part-fits, part_length, part-stops, part-goes, head-made, group-made, constraint_made}
 use native.Mathlib.Omega.{arith}
 use borrow.Author.Tests.{lt-ltb, le-ltb, le-leb, lt-leb, eq-eqb, ne_eqb}
@@ -29,42 +31,24 @@ loop-at-init c = at-start _ _ c.zero-m.ensures
 pub slice_bounds-line-end : goal.slice_bounds-line-end
 slice_bounds-line-end c = part_length c.args.sheet.now c.loop-at.m c.loop-at.done c.loop-at.at c.loop-at.invariant c.loop-at-test.true c.if-sheet-n-ne10.false c.line_length-len.result c.line_length-len.ensures
 
-pub line_refusal-bad-requires : goal.line_refusal-bad-requires
-line_refusal-bad-requires c = (c.loop-at.invariant.entrants, c.loop-at.invariant.groups, c.loop-at.invariant.constraints)
-
-pub overflow_add-done : goal.overflow_add-done
-overflow_add-done c = omega (arith, c.loop-at.invariant.few, c.loop-at.invariant.place, c.if-n-gt-SHEET_BYTES.false)
-
-pub returns-then-bad-ne0 : goal.returns-then-bad-ne0
+pub returns-in-Err : goal.returns-in-Err
 unfolding read_sheet
-returns-then-bad-ne0 c = named (promised _ _ (rw (le-ltb _ _ c.if-n-gt-SHEET_BYTES.false, ne_eqb _ _ c.if-n-eq0.false, eq-eqb _ _ c.if-sheet-n-ne10.false) (c.refused-then-bad-ne0.ensures ∙ part-stops c.args.sheet.now c.loop-at.m c.loop-at.done c.loop-at.at c.loop-at.invariant c.loop-at-test.true c.if-sheet-n-ne10.false c.line_length-len.result c.line_length-len.ensures c.line_refusal-bad.result c.line_refusal-bad.ensures c.if-bad-ne0.true)))
+returns-in-Err c = named (promised _ _ (rw (le-ltb _ _ c.if-n-gt-SHEET_BYTES.false, ne_eqb _ _ c.if-n-eq0.false, eq-eqb _ _ c.if-sheet-n-ne10.false) ((c.refused-in-Err.ensures ∙ ap (λ (k : ℕ). refused_sheet k (c.loop-at.done + 1)) c.number.ensures) ∙ part-stops c.args.sheet.now c.loop-at.m c.loop-at.done c.loop-at.at c.loop-at.invariant c.loop-at-test.true c.if-sheet-n-ne10.false c.line_length-len.result c.line_length-len.ensures _ c.in-Err.ensures (positive _))))
 
 pub read_group-g-requires : goal.read_group-g-requires
 read_group-g-requires c =
     let l = c.loop-at in
-    let g = group-line _ _ _ _ l.done (sym c.line_refusal-bad.ensures ∙ c.if-bad-ne0.false) c.if-done-eq0.false c.if-done-m.true in
+    let g = group-line _ _ _ _ l.done (sym c.line_refusal.ensures ∙ accepted _ c.in_default.not-Err) c.if-done-eq0.false c.if-done-m.true in
     (l.invariant.entrants, g.0, g.1)
-
-pub bounds-m-i : goal.bounds-m-i
-bounds-m-i c = omega (arith, c.loop-at.invariant.groups, c.if-done-m.true, c.if-done-eq0.false)
 
 pub read_constraint-k-requires : goal.read_constraint-k-requires
 read_constraint-k-requires c =
     let done = c.loop-at.done in
-    let e = sym c.line_refusal-bad.ensures ∙ c.if-bad-ne0.false in
+    let e = sym c.line_refusal.ensures ∙ accepted _ c.in_default.not-Err in
     (constraint-small _ _ _ _ done e c.if-done-eq0.false c.if-done-m.false, constraint-line _ _ _ _ done e c.if-done-eq0.false c.if-done-m.false)
 
-pub overflow_sub-j : goal.overflow_sub-j
-overflow_sub-j c = omega (arith, c.if-done-m.false)
-
-pub overflow_sub-j-else-done-m : goal.overflow_sub-j-else-done-m
-overflow_sub-j-else-done-m c = omega (arith, c.if-done-m.false)
-
 pub bounds-m-j : goal.bounds-m-j
-bounds-m-j c = omega (arith, c.loop-at.invariant.constraints, c.if-done-m.false, constraint-place _ _ _ _ c.loop-at.done (sym c.line_refusal-bad.ensures ∙ c.if-bad-ne0.false) c.if-done-eq0.false c.if-done-m.false)
-
-pub overflow_add-done-in-loop-at : goal.overflow_add-done-in-loop-at
-overflow_add-done-in-loop-at c = omega (arith, c.loop-at.invariant.few, c.loop-at.invariant.place, c.if-n-gt-SHEET_BYTES.false)
+bounds-m-j c = omega (arith, c.loop-at.invariant.constraints, c.if-done-m.false, constraint-place _ _ _ _ c.loop-at.done (sym c.line_refusal.ensures ∙ accepted _ c.in_default.not-Err) c.if-done-eq0.false c.if-done-m.false)
 
 pub overflow_add-at : goal.overflow_add-at
 overflow_add-at c = omega (arith, c.if-n-gt-SHEET_BYTES.false, part-fits c.args.sheet.now c.loop-at.m c.loop-at.done c.loop-at.at c.loop-at.invariant c.loop-at-test.true c.if-sheet-n-ne10.false c.line_length-len.result c.line_length-len.ensures)
@@ -72,22 +56,13 @@ overflow_add-at c = omega (arith, c.if-n-gt-SHEET_BYTES.false, part-fits c.args.
 pub overflow_add-at-in-loop-at : goal.overflow_add-at-in-loop-at
 overflow_add-at-in-loop-at c = omega (arith, c.if-n-gt-SHEET_BYTES.false, part-fits c.args.sheet.now c.loop-at.m c.loop-at.done c.loop-at.at c.loop-at.invariant c.loop-at-test.true c.if-sheet-n-ne10.false c.line_length-len.result c.line_length-len.ensures)
 
-pub loop-at-smaller : goal.loop-at-smaller
-loop-at-smaller c = omega (arith, part-fits c.args.sheet.now c.loop-at.m c.loop-at.done c.loop-at.at c.loop-at.invariant c.loop-at-test.true c.if-sheet-n-ne10.false c.line_length-len.result c.line_length-len.ensures)
-
 pub loop-at-preserved : goal.loop-at-preserved
-loop-at-preserved c = part-goes c.args.sheet.now c.loop-at.m c.loop-at.done c.loop-at.at c.loop-at.invariant c.loop-at-test.true c.if-sheet-n-ne10.false c.line_length-len.result c.line_length-len.ensures c.line_refusal-bad.result c.line_refusal-bad.ensures c.if-bad-ne0.false c.if-done-eq0.m
+loop-at-preserved c = part-goes c.args.sheet.now c.loop-at.m c.loop-at.done c.loop-at.at c.loop-at.invariant c.loop-at-test.true c.if-sheet-n-ne10.false c.line_length-len.result c.line_length-len.ensures _ c.line_refusal.ensures (accepted _ c.in_default.not-Err) c.if-done-eq0.m
     (elim c.if-done-eq0.branch [
       | then-done-eq0 w ↦ w.m-is ∙ head-made c.loop-at.m _ c.loop-at.done w.if-done-eq0.true _ _ _ w.value.ensures w.value-then-done-eq0.ensures w.value-then-done-eq0-2.ensures
       | else-done-eq0+then-done-m w ↦ w.m-is ∙ group-made c.loop-at.m _ c.loop-at.done w.if-done-eq0.false w.if-done-m.true _ w.read_group-g.ensures
       | else-done-eq0+else-done-m w ↦ w.m-is ∙ constraint_made c.loop-at.m _ c.loop-at.done w.if-done-eq0.false w.if-done-m.false _ w.read_constraint-k.ensures
     ])
-
-pub overflow_add-m : goal.overflow_add-m
-overflow_add-m c = omega (arith, c.loop-at.invariant.groups, c.loop-at.invariant.constraints)
-
-pub overflow_add-done-then-done-m-2 : goal.overflow_add-done-then-done-m-2
-overflow_add-done-then-done-m-2 c = omega (arith, c.loop-at.invariant.few, c.loop-at.invariant.place, c.if-n-gt-SHEET_BYTES.false)
 
 pub returns-then-done-m-2 : goal.returns-then-done-m-2
 unfolding read_sheet after_last

@@ -1,12 +1,11 @@
--- `unspaced` gives what stands after the leading spaces. Invariant: what stands after them is so from i on. Assumes nothing.
-use Prim.Native.Nat.{◌≤◌, ◌-◌}
+-- `unspaced` gives what stands after the leading spaces. Invariant: of the rest it is the same. Assumes nothing.
 use mathlib.Core.Path.{◌≡◌}
-use lib.ListN.{length, drop}
+use lib.ListN.{length}
 use Rattle.model.specs.Sheet.{after_spaces}
 use Rattle.sheet.proofs.unspaced.Given as goal
 
-abbrev pub invariant-loop-i : goal.invariant-loop-i
-invariant-loop-i l = (l.i ≤ length l.f) × (after_spaces l.f ≡ after_spaces (drop l.i l.f))
+abbrev pub invariant-loop-rest : goal.invariant-loop-rest
+invariant-loop-rest l = after_spaces l.f ≡ after_spaces l.rest
 
-abbrev pub decreases-loop-i : goal.decreases-loop-i
-decreases-loop-i l = length l.f - l.i
+abbrev pub decreases-loop-rest : goal.decreases-loop-rest
+decreases-loop-rest l = length l.rest

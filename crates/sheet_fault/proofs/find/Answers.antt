@@ -13,8 +13,8 @@ returns-then-refusal-eq2 c = rw (le-ltb _ _ c.if-sheet-gt-SHEET_BYTES.false, eq-
 
 pub returns-then-is_of_lines : goal.returns-then-is_of_lines
 unfolding sheet_fault lines_fault
-returns-then-is_of_lines c = rw (le-ltb _ _ c.if-sheet-gt-SHEET_BYTES.false, ne_eqb _ _ c.if-refusal-eq2.false, ← c.line_at.ensures, ← c.head_of-h.ensures.0, ← c.is_of_lines.ensures, c.if-is_of_lines.true, ← c.one_less-done.ensures, ← c.kind_due.ensures, ← c.line_count.ensures)
+returns-then-is_of_lines c = rw (le-ltb _ _ c.if-sheet-gt-SHEET_BYTES.false, ne_eqb _ _ c.if-refusal-eq2.false, ← c.line_at.ensures, ← c.head_of-h.ensures.0, ← c.is_of_lines.ensures, c.if-is_of_lines.true, ← c.saturating_sub-done.ensures, ← c.kind_due.ensures, ← c.line_count.ensures)
 
 pub returns : goal.returns
 unfolding sheet_fault
-returns c = rw (le-ltb _ _ c.if-sheet-gt-SHEET_BYTES.false, ne_eqb _ _ c.if-refusal-eq2.false, ← c.line_at.ensures, ← c.head_of-h.ensures.0, ← c.is_of_lines.ensures, c.if-is_of_lines.false, ← c.one_less-done.ensures, ← c.line_at-2.ensures) c.find.ensures
+returns c = rw (le-ltb _ _ c.if-sheet-gt-SHEET_BYTES.false, ne_eqb _ _ c.if-refusal-eq2.false, ← c.line_at.ensures, ← c.head_of-h.ensures.0, ← c.is_of_lines.ensures, c.if-is_of_lines.false, ← c.saturating_sub-done.ensures, ← c.line_at-2.ensures) c.find.ensures

@@ -28,23 +28,23 @@ module _ (s : ℕ) (k : Constraint) (p : T (constraint_in_range s k) × (s ≤ l
       (x, omega (arith, x, constraint-bound s k p.0 p.1))
 
 pub overflow_add-k : goal.overflow_add-k
-overflow_add-k c = record { fits = omega (arith, few c.args.s c.args.c c.requires) }
+overflow_add-k c = record { fits = omega (arith, few c.args.s c.args.c.now c.requires) }
 
 pub line_length-requires : goal.line_length-requires
-line_length-requires c = omega (arith, few c.args.s c.args.c c.requires)
+line_length-requires c = omega (arith, few c.args.s c.args.c.now c.requires)
 
 pub returns-then-c-eq6 : goal.returns-then-c-eq6
 returns-then-c-eq6 c =
-    line c.args.s c.args.c c.requires c.whole.ensures _ (eq-eqb _ _ c.if-c-eq6.true) _
+    line c.args.s c.args.c.now c.requires (omega arith) _ (eq-eqb _ _ c.if-c-eq6.true) _
     c.member_count-k.ensures _ c.line_length.ensures
 
 pub overflow_add-k-2 : goal.overflow_add-k-2
-overflow_add-k-2 c = record { fits = omega (arith, few c.args.s c.args.c c.requires) }
+overflow_add-k-2 c = record { fits = omega (arith, few c.args.s c.args.c.now c.requires) }
 
 pub line_length-requires-2 : goal.line_length-requires-2
-line_length-requires-2 c = omega (arith, few c.args.s c.args.c c.requires)
+line_length-requires-2 c = omega (arith, few c.args.s c.args.c.now c.requires)
 
 pub returns : goal.returns
 returns c =
-    line c.args.s c.args.c c.requires c.whole.ensures _ (ne_eqb _ _ c.if-c-eq6.false) _
+    line c.args.s c.args.c.now c.requires (omega arith) _ (ne_eqb _ _ c.if-c-eq6.false) _
     c.member_count-k.ensures _ c.line_length-2.ensures

@@ -1,32 +1,22 @@
-use mathlib.Core.Path.{◌≡◌, ap}
-use Prim.Native.Nat.{ℕ, ◌<◌}
 use native.Mathlib.Omega.{arith}
-use lib.ListN.{length, take}
-use Rattle.model.specs.Lists.{each}
+use lib.ListN.{take}
 use Rattle.model.specs.Model.{constraint_in_range}
+use Rattle.model.proofs.Lists.{every-getD}
 use Rattle.model.proofs.Codes.{member-bound}
 use Rattle.propagation_laws.proofs.Ranges.{constraint-code}
-use Rattle.text.proofs.Writes.{done, same_text}
 use Rattle.sheet_writer.specs.Parts.{constraint_text}
-use Rattle.sheet_writer.proofs.Writes.{turn, room, every-at}
+use Rattle.sheet_writer.proofs.Writes.{turn, room-all}
 use Rattle.sheet_writer.proofs.put_constraints.Goals as goal
-
-pub loop-j-init : goal.loop-j-init
-loop-j-init c = (omega arith, done _ _ (omega arith))
 
 pub put_constraint-k-requires : goal.put_constraint-k-requires
 put_constraint-k-requires c =
-    let l = c.loop-j in
-    let t = c.loop-j-test.true in
-    let i : l.j < length c.args.constraints = omega (arith, c.well_formed.0, c.requires.c_le_constraints) in record { count_bound = member-bound _ _ (constraint-code c.args.s _ (every-at (constraint_in_range c.args.s) _ c.args.constraints l.j c.args.c i t c.requires.t)); c_in_bounds = room constraint_text _ c.args.constraints l.j i c.args.c l.invariant.1 t c.requires.constraints_in_bounds }
+    let l = c.loop-x in
+    let cs = take c.args.c c.args.constraints.now in
+    record {
+      count_bound = member-bound _ _ (constraint-code c.args.s _ (every-getD (constraint_in_range c.args.s) cs _ l.x-index c.requires.t (omega arith)));
+      c_in_bounds = room-all constraint_text _ cs l.x-index (omega arith) l.invariant c.requires.constraints_in_bounds;
+    }
 
-pub loop-j-preserved : goal.loop-j-preserved
-loop-j-preserved c =
-    let l = c.loop-j in
-    let i : l.j < length c.args.constraints = omega (arith, c.well_formed.0, c.requires.c_le_constraints) in
-    (omega arith, turn constraint_text _ c.args.constraints l.j i l.invariant.1 c.put_constraint-k.ensures)
-
-pub returns : goal.returns
-returns c =
-    let e : c.loop-j.j ≡ c.args.c = omega arith in
-    same_text (ap (λ (k : ℕ). each constraint_text (take k c.args.constraints)) e) c.loop-j.invariant.1
+pub loop-x-preserved : goal.loop-x-preserved
+loop-x-preserved c =
+    turn constraint_text _ (take c.args.c c.args.constraints.now) c.loop-x.x-index (omega arith) c.loop-x.invariant c.put_constraint-k.ensures

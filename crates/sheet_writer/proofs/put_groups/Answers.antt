@@ -5,10 +5,9 @@ use native.Mathlib.Omega.{arith}
 use lib.ListN.{length, get_or, take}
 use lib.Seq.{get_or-take}
 use Rattle.model.specs.declared.Group.{Group}
-use Rattle.model.specs.Lists.{each, range}
 use Rattle.model.specs.Model.{zero_group, group_at}
 use Rattle.model.specs.SheetText.{group_fields, line_text}
-use Rattle.text.proofs.Writes.{done, same_text, loop-turn, loop-room}
+use Rattle.text.proofs.Writes.{same_text, loop-turn, loop-room}
 use Rattle.sheet_writer.specs.Parts.{group_text}
 use Rattle.sheet_writer.proofs.put_groups.Goals as goal
 
@@ -19,26 +18,18 @@ line_at n s i gs h =
     ap₂ (λ (j : ℕ) (g : Group). line_text (group_fields n j g)) {x = i + 1} {y = 1 + i} (omega arith)
     (sym (ap (λ (j : ℕ). get_or (take s gs) j zero_group) k ∙ get_or-take s gs i zero_group h))
 
-pub loop-i-init : goal.loop-i-init
-loop-i-init c = (omega arith, done _ _ (omega arith))
-
 pub put_group-k-requires : goal.put_group-k-requires
 unfolding zero_group
 put_group-k-requires c =
     let l = c.loop-i in
-    let f = group_text c.args.n (take c.args.s c.args.groups) in
+    let f = group_text c.args.n (take c.args.s c.args.groups.now) in
     let t = c.loop-i-test.true in
-    record { n_le_entrants = c.requires.n_le_entrants.0; g_in_bounds = omega (arith, loop-room f 1 l.i c.args.s l.invariant.1 t c.requires.s_in_bounds, ap length (line_at c.args.n c.args.s l.i c.args.groups t)) }
+    record { n_le_entrants = c.requires.n_le_entrants.0; g_in_bounds = omega (arith, loop-room f 1 l.i c.args.s l.invariant t c.requires.s_in_bounds, ap length (line_at c.args.n c.args.s l.i c.args.groups.now t)) }
 
 pub loop-i-preserved : goal.loop-i-preserved
 unfolding zero_group
 loop-i-preserved c =
     let l = c.loop-i in
-    let f = group_text c.args.n (take c.args.s c.args.groups) in
-    let e = line_at c.args.n c.args.s l.i c.args.groups c.loop-i-test.true in
-    (omega arith, loop-turn f 1 l.i l.invariant.1 (same_text e c.put_group-k.ensures))
-
-pub returns : goal.returns
-returns c =
-    let e : c.loop-i.i ≡ c.args.s = omega arith in
-    same_text (ap (λ (k : ℕ). each (group_text c.args.n (take c.args.s c.args.groups)) (range 1 k)) e) c.loop-i.invariant.1
+    let f = group_text c.args.n (take c.args.s c.args.groups.now) in
+    let e = line_at c.args.n c.args.s l.i c.args.groups.now c.loop-i-test.true in
+    loop-turn f 1 l.i l.invariant (same_text e c.put_group-k.ensures)

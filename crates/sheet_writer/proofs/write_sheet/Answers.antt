@@ -3,7 +3,6 @@ use mathlib.Core.Path.{◌≡◌, sym, ◌∙◌}
 use mathlib.Core.Bool.{Bool, true, false, not}
 use native.Mathlib.Omega.{arith}
 use borrow.Author.Tests.{not-false}
-use Rattle.model.proofs.Lists.{true-T}
 use Rattle.sheet_writer.proofs.Entry.{out_of_range, too_short, written}
 use Rattle.sheet_writer.proofs.write_sheet.Goals as goal
 
@@ -19,16 +18,10 @@ returns-then-not-in_range c =
     let both = out_of_range c.args.m c.args.buf.now (sym c.in_range.ensures ∙ c.if-not-in_range.true) in
     record { value = both.0; buf_after = both.1.0; result_value = both.1.1 }
 
-pub sheet_length-requires : goal.sheet_length-requires
-sheet_length-requires c = true-T _ (inside c.in_range.ensures c.if-not-in_range.false-raw)
-
 pub returns-then-buf-sheet_length : goal.returns-then-buf-sheet_length
 returns-then-buf-sheet_length c =
     let both = too_short c.args.m c.args.buf.now (inside c.in_range.ensures c.if-not-in_range.false-raw) (omega (arith, c.if-buf-sheet_length.true, c.sheet_length.ensures)) in
     record { value = both.0; buf_after = both.1.0; result_value = both.1.1 }
 
-pub put_sheet-n-requires : goal.put_sheet-n-requires
-put_sheet-n-requires c = record { t = true-T _ (inside c.in_range.ensures c.if-not-in_range.false-raw); m_in_bounds = omega (arith, c.if-buf-sheet_length.false, c.sheet_length.ensures) }
-
 pub returns : goal.returns
-returns c = named (written c.args.m c.args.buf.now (inside c.in_range.ensures c.if-not-in_range.false-raw) _ _ c.put_sheet-n.ensures)
+returns c = named (written c.args.m c.args.buf.now (inside c.in_range.ensures c.if-not-in_range.false-raw) _ _ c.put_sheet.ensures)

@@ -51,7 +51,7 @@ returns-then-not-clauses_hold c =
     let e = c.unsettled-refusal.ensures in
     let z = c.if-refusal-ne0.false in
     let w = whole_of c.args.m c.whole.ensures in
-    let t = verdict-is c.args.m (assignment_of values) c.words-found.result c.words-found.ensures.1 _ e z w _ _ c.clauses_hold.ensures c.if-not-clauses_hold.true in
+    let t = verdict-is c.args.m (assignment_of values) c.words-found.result c.words-found.ensures _ e z w _ _ c.clauses_hold.ensures c.if-not-clauses_hold.true in
     named (no-draw c.args.m c.args.r c.args.values.now _ (close-28 c.args.m c.args.r values _ e z _ (variables-is c.args.m _ c.of_model-v.ensures) (omega arith) (not-false _ c.if-not-r.false) _ c.all_said.ensures c.if-not-all_said.false _
     c.refused-then-not-clauses_hold.ensures t) _ c.refused-then-not-clauses_hold.ensures (λ z. omega arith))
 
@@ -61,6 +61,6 @@ returns c =
     let e = c.unsettled-refusal.ensures in
     let z = c.if-refusal-ne0.false in
     let w = whole_of c.args.m c.whole.ensures in
-    let t = verdict-is c.args.m (assignment_of values) c.words-found.result c.words-found.ensures.1 _ e z w _ _ c.clauses_hold.ensures c.if-not-clauses_hold.false in
+    let t = verdict-is c.args.m (assignment_of values) c.words-found.result c.words-found.ensures _ e z w _ _ c.clauses_hold.ensures c.if-not-clauses_hold.false in
     named (a-draw c.args.m c.args.r c.args.values.now _ (close-0 c.args.m c.args.r values _ e z _ (variables-is c.args.m _ c.of_model-v.ensures) (omega arith) (not-false _ c.if-not-r.false) _ c.all_said.ensures c.if-not-all_said.false _
-    (found-is c.args.m (assignment_of values) c.words-found.result c.words-found.ensures.1) t) w)
+    (found-is c.args.m (assignment_of values) c.words-found.result c.words-found.ensures) t) w)

@@ -1,18 +1,12 @@
-use Rattle.std.proofs.Common.{◌<◌, length, sym, ap, arith, length-set}
+use Rattle.std.proofs.Common.{◌<◌, length, sym, ap, append_assoc, arith, length-set}
 use Rattle.model.specs.declared.Term.{Term}
 use Rattle.model.specs.declared.Term.TheVariants.{Fails}
 use Rattle.text.specs.Put.{term_text}
-use Rattle.text.proofs.Writes.{wrote, done, then, snoc, same_text, kept}
+use Rattle.text.proofs.Writes.{wrote, then, two, same_text, kept}
 use Rattle.terms.specs.Terms.{clause_terms}
 use Rattle.text.proofs.Clauses.{terms_room, terms_next, terms_all}
 use Rattle.terms.proofs.Clauses.{clause-size}
 use Rattle.terms.proofs.write_clause.Goals as goal
-
-pub loop-i-init : goal.loop-i-init
-loop-i-init c = (omega arith, done _ _ (omega arith))
-
-pub clause_term-t-requires : goal.clause_term-t-requires
-clause_term-t-requires c = c.requires.k_value
 
 pub loop-i-preserved : goal.loop-i-preserved
 loop-i-preserved c =
@@ -23,39 +17,28 @@ loop-i-preserved c =
     let put = c.put_term-n.ensures in
     let term = wrote put.value put.buf_after (omega (
       arith,
-      ap (λ (t : Term). length (term_text t)) c.clause_term-t.ensures,
+      ap (λ (t : Term). length (term_text t)) c.clause_term.ensures,
       terms_room ts l.i c.args.k Fails c.loop-i-test.true in-clause,
       ap length (terms_all ts c.args.k (omega (arith, size))),
-      l.invariant.1.next,
-      kept l.invariant.1,
+      l.invariant.next,
+      kept l.invariant,
       c.requires.j_in_bounds,
-    )) in (
-      omega arith,
-      same_text (sym (terms_next ts l.i Fails in-clause)) (then l.invariant.1 (same_text (ap term_text c.clause_term-t.ensures) term)),
-    )
+    )) in
+    same_text (sym (terms_next ts l.i Fails in-clause)) (then l.invariant (same_text (ap term_text c.clause_term.ensures) term))
 
 pub bounds-buf-n : goal.bounds-buf-n
 bounds-buf-n c =
     let l = c.loop-i in
-    omega (arith, ap length (terms_all (clause_terms c.args.ns.now c.args.code c.args.count c.args.j) l.i (omega (arith, clause-size c.args.ns.now c.args.code c.args.count c.args.j c.requires.k_value))), l.invariant.1.next, kept l.invariant.1, c.requires.j_in_bounds)
+    omega (arith, ap length (terms_all (clause_terms c.args.ns.now c.args.code c.args.count c.args.j) l.i (omega (arith, clause-size c.args.ns.now c.args.code c.args.count c.args.j c.requires.k_value))), l.invariant.next, kept l.invariant, c.requires.j_in_bounds)
 
-pub overflow_add-d : goal.overflow_add-d
-overflow_add-d c = omega (arith, c.loop-i.invariant.1.inside)
-
-pub bounds-buf-d : goal.bounds-buf-d
-bounds-buf-d c =
+pub bounds-buf-n-2 : goal.bounds-buf-n-2
+bounds-buf-n-2 c =
     let l = c.loop-i in
     rw length-set
-    (omega (arith, ap length (terms_all (clause_terms c.args.ns.now c.args.code c.args.count c.args.j) l.i (omega (arith, clause-size c.args.ns.now c.args.code c.args.count c.args.j c.requires.k_value))), l.invariant.1.next, kept l.invariant.1, c.requires.j_in_bounds))
-
-pub overflow_add-result : goal.overflow_add-result
-overflow_add-result c =
-    let l = c.loop-i in
-    omega (arith, ap length (terms_all (clause_terms c.args.ns.now c.args.code c.args.count c.args.j) l.i (omega (arith, clause-size c.args.ns.now c.args.code c.args.count c.args.j c.requires.k_value))), l.invariant.1.next, c.requires.j_in_bounds)
+    (omega (arith, ap length (terms_all (clause_terms c.args.ns.now c.args.code c.args.count c.args.j) l.i (omega (arith, clause-size c.args.ns.now c.args.code c.args.count c.args.j c.requires.k_value))), l.invariant.next, kept l.invariant, c.requires.j_in_bounds))
 
 pub returns : goal.returns
 returns c =
     let l = c.loop-i in
-    snoc 10
-    (snoc 48 (same_text (terms_all (clause_terms c.args.ns.now c.args.code c.args.count c.args.j) l.i (omega (arith, clause-size c.args.ns.now c.args.code c.args.count c.args.j c.requires.k_value))) l.invariant.1) ((let l = c.loop-i in omega (arith, ap length (terms_all (clause_terms c.args.ns.now c.args.code c.args.count c.args.j) l.i (omega (arith, clause-size c.args.ns.now c.args.code c.args.count c.args.j c.requires.k_value))), l.invariant.1.next, kept l.invariant.1, c.requires.j_in_bounds))))
-    ((let l = c.loop-i in rw length-set (omega (arith, ap length (terms_all (clause_terms c.args.ns.now c.args.code c.args.count c.args.j) l.i (omega (arith, clause-size c.args.ns.now c.args.code c.args.count c.args.j c.requires.k_value))), l.invariant.1.next, kept l.invariant.1, c.requires.j_in_bounds))))
+    let all = terms_all (clause_terms c.args.ns.now c.args.code c.args.count c.args.j) l.i (omega (arith, clause-size c.args.ns.now c.args.code c.args.count c.args.j c.requires.k_value)) in
+    rw append_assoc (then (same_text all l.invariant) (two _ _ _ _ (omega (arith, ap length all, kept l.invariant))))

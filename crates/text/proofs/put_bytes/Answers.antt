@@ -2,13 +2,9 @@
 use mathlib.Core.Path.{sym, ◌∙◌}
 use Prim.Native.Nat.{◌+◌}
 use lib.ListN.{length}
-use borrow.Author.Tests.{leb-true, leb-false}
+use borrow.Author.Tests.{leb-false}
 use Rattle.text.proofs.Writes.{put, no_room_lem}
 use Rattle.text.proofs.put_bytes.Goals as goal
-
-pub write_bytes-requires : goal.write_bytes-requires
-write_bytes-requires c =
-    leb-true (c.args.at + length c.args.bytes.now) (length c.args.buf.now) (sym c.ends_within.ensures ∙ c.if-ends_within.true)
 
 pub returns-then-ends_within : goal.returns-then-ends_within
 returns-then-ends_within c =

@@ -3,26 +3,17 @@ use mathlib.Core.Path.{sym, ap, ◌∙◌}
 use mathlib.Core.List.{◌++◌}
 use Prim.Native.Nat.{ℕ, ◌+◌, ◌-◌}
 use native.Mathlib.Omega.{arith}
-use lib.ListN.{length, replicate, length-replicate}
-use borrow.Author.Tests.{leb-true, leb-false}
+use lib.ListN.{length, replicate}
+use borrow.Author.Tests.{leb-false}
 use Rattle.model.specs.Text.{decimal, field_text}
 use Rattle.text.proofs.Numbers.{field-none, field-some, field-length}
-use Rattle.text.proofs.Writes.{put, no_room_lem, nothing, then, same_text, kept}
+use Rattle.text.proofs.Writes.{put, no_room_lem, nothing, then, same_text}
 use Rattle.text.proofs.put_field.Goals as goal
 
 pub returns-then-k-gt-COLUMNS : goal.returns-then-k-gt-COLUMNS
 returns-then-k-gt-COLUMNS c =
     let both = nothing (field_text c.args.v) c.args.buf.now c.args.at (field-none c.args.v (omega (arith, c.number_length-k.ensures.value, c.if-k-gt-COLUMNS.true))) in
     record { value = both.0; buf_after = both.1 }
-
-pub write_blanks-n-requires : goal.write_blanks-n-requires
-write_blanks-n-requires c =
-    omega (arith, leb-true (c.args.at + 4) (length c.args.buf.now) (sym c.ends_within.ensures ∙ c.if-ends_within.true))
-
-pub write_number-requires : goal.write_number-requires
-write_number-requires c =
-    let w = c.write_blanks-n.ensures in
-    omega (arith, leb-true (c.args.at + 4) (length c.args.buf.now) (sym c.ends_within.ensures ∙ c.if-ends_within.true), c.if-k-gt-COLUMNS.false, c.number_length-k.ensures.value, w.next, kept w, length-replicate {A = ℕ} (4 - c.number_length-k.result) 32)
 
 pub returns-then-ends_within : goal.returns-then-ends_within
 returns-then-ends_within c =

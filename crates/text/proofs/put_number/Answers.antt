@@ -2,14 +2,10 @@
 use mathlib.Core.Path.{sym, ◌∙◌}
 use Prim.Native.Nat.{◌+◌}
 use lib.ListN.{length}
-use borrow.Author.Tests.{leb-true, leb-false}
+use borrow.Author.Tests.{leb-false}
 use Rattle.model.specs.Text.{decimal}
 use Rattle.text.proofs.Writes.{put, no_room_lem}
 use Rattle.text.proofs.put_number.Goals as goal
-
-pub write_number-requires : goal.write_number-requires
-write_number-requires c =
-    leb-true (c.args.at + length (decimal c.args.v)) (length c.args.buf.now) (sym c.number_fits.ensures ∙ c.if-number_fits.true)
 
 pub returns-then-number_fits : goal.returns-then-number_fits
 returns-then-number_fits c =

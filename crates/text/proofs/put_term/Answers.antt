@@ -2,14 +2,10 @@
 use mathlib.Core.Path.{sym, ◌∙◌}
 use Prim.Native.Nat.{◌+◌}
 use lib.ListN.{length}
-use borrow.Author.Tests.{leb-true, leb-false}
+use borrow.Author.Tests.{leb-false}
 use Rattle.text.specs.Put.{term_text}
 use Rattle.text.proofs.Writes.{put, no_room_lem}
 use Rattle.text.proofs.put_term.Goals as goal
-
-pub write_term-requires : goal.write_term-requires
-write_term-requires c =
-    leb-true (c.args.at + length (term_text c.args.t)) (length c.args.buf.now) (sym c.term_fits.ensures ∙ c.if-term_fits.true)
 
 pub returns-then-term_fits : goal.returns-then-term_fits
 returns-then-term_fits c =

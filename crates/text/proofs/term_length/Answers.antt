@@ -3,8 +3,8 @@ use native.Mathlib.Omega.{arith}
 use Rattle.text.proofs.Numbers.{pos-length, neg-length}
 use Rattle.text.proofs.term_length.Goals as goal
 
-pub returns-in-Pos : goal.returns-in-Pos
-returns-in-Pos c = (omega (arith, pos-length c.in-Open.is c.in-Pos.is, c.number_length.ensures.value), omega (arith, c.number_length.ensures.upper_bound))
+pub returns-in-Open-Pos : goal.returns-in-Open-Pos
+returns-in-Open-Pos c = (omega (arith, pos-length c.in-Open-Pos.is (rw c.in-Open-Pos.is at c.in-Open-Pos.field-0-is)), omega arith)
 
-pub returns-in-Neg : goal.returns-in-Neg
-returns-in-Neg c = (omega (arith, neg-length c.in-Open.is c.in-Neg.is, c.number_length-in-Neg.ensures.value), omega (arith, c.number_length-in-Neg.ensures.upper_bound))
+pub returns-in-Open-Neg : goal.returns-in-Open-Neg
+returns-in-Open-Neg c = (omega (arith, neg-length c.in-Open-Neg.is (rw c.in-Open-Neg.is at c.in-Open-Neg.field-0-is)), omega arith)

@@ -1,16 +1,9 @@
-use mathlib.Core.Path.{refl}
-use native.Mathlib.Omega.{arith}
-use Rattle.words.proofs.Words.{filling-next, filling-end}
+-- `members_from`: number by number. Assumes nothing.
+use Rattle.std.proofs.Common.{rules, ◌+◌}
+use Rattle.model.specs.Limits.{limits}
+use Rattle.words.specs.Words.{number_at}
+use Rattle.words.proofs.Words.{made}
 use Rattle.words.proofs.members_from.Goals as goal
 
-pub loop-i-init : goal.loop-i-init
-loop-i-init c = record { passed = omega arith; whole = refl; filled = refl }
-
-pub bounds-members-i : goal.bounds-members-i
-bounds-members-i c = omega (arith, c.loop-i.invariant.whole, c.loop-i-test.true)
-
-pub loop-i-preserved : goal.loop-i-preserved
-loop-i-preserved c = filling-next _ _ _ _ c.loop-i.invariant _ c.loop-i-test.true c.number_at.ensures
-
 pub returns : goal.returns
-returns c = filling-end _ _ _ _ c.loop-i.invariant (omega (arith, c.loop-i-test.false))
+returns c = made _ (λ i. number_at c.args.words.now (c.args.at + i)) _ _ limits.members (λ i r q h. search rules) c.from_fn.ensures.items

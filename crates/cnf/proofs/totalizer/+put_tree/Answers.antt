@@ -7,7 +7,7 @@ use Rattle.model.specs.Totalizer.{tree_output_count}
 use Rattle.encoding_laws.proofs.Counts.{output-count-step}
 use Rattle.numbering.proofs.Totalizers.{within_word}
 use Rattle.cnf.specs.Parts.{tree_text, Among}
-use Rattle.cnf.proofs.Entry.{does-fit, does-not-fit}
+use Rattle.cnf.proofs.Entry.{does-not-fit}
 use Rattle.cnf.proofs.Fits.{ran-zero, ran-kept}
 use Rattle.cnf.proofs.Subtrees.{left-longer, right-longer, ran-left, ran-right, ran-halves, own-place, ran-own, ran-no-own}
 use Rattle.cnf.proofs.totalizer.+put_tree.Goals as goal
@@ -35,12 +35,6 @@ rest_among v m h = omega arith
 rest-outputs : (o s m x y p : ℕ) → s ≡ m + x + y → p ≡ o + x → Among o s → Among p y
 rest-outputs o s m x y p e f h = omega arith
 
-last-node : (m : ℕ) → 2 ≤ m → m - 2 + 2 ≤ m
-last-node m h = omega arith
-
-room : {l at n : ℕ} → l ≤ n - at → at ≤ n → at + l ≤ n
-room h k = omega arith
-
 places : (f m : ℕ) → 2 ≤ m → f + (m - 2) ≤ f + (m / 2 - 1) + (m - m / 2 - 1)
 places f m h = omega arith
 
@@ -59,13 +53,13 @@ pub put_tree-l-requires : goal.put_tree-l-requires
 put_tree-l-requires t c =
     let q = c.requires in
     let two : 2 ≤ c.args.m = omega arith in
-    (omega arith, ((omega arith, omega arith, omega arith, omega (arith, output-count-step c.args.m two)), ((omega arith, omega arith), ((q.first_le_x.0, c.least.ensures.1, omega arith, q.first_le_x.3), (left-longer c.args.m c.args.v c.args.o c.args.low c.args.high two c.args.most q.no_longer.0, q.no_longer.1)))))
+    (omega arith, ((omega arith, omega arith, omega arith, omega (arith, output-count-step c.args.m two)), ((omega arith, omega arith), ((q.first_le_x.0, (omega (arith, c.min.ensures)), omega arith, q.first_le_x.3), (left-longer c.args.m c.args.v c.args.o c.args.low c.args.high two c.args.most q.no_longer.0, q.no_longer.1)))))
 
-pub returns-then-y-middle : goal.returns-then-y-middle
-returns-then-y-middle t c =
+pub returns-then-l-middle : goal.returns-then-l-middle
+returns-then-l-middle t c =
     let q = c.requires in
     let two = tree_of c.args.first c.args.x c.args.end c.args.m q.first_le_x.0 c.if-end-x.false q.first_le_x.1 in
-    ran-left c.args.m c.args.v c.args.o c.args.low c.args.high two c.args.first c.args.x c.args.end (c.args.o + tree_output_count (c.args.m / 2)) q.first_le_x.0 c.if-end-x.false q.first_le_x.1 refl c.least.ensures.0 c.put_tree-l.ensures c.if-y-middle.true
+    ran-left c.args.m c.args.v c.args.o c.args.low c.args.high two c.args.first c.args.x c.args.end (c.args.o + tree_output_count (c.args.m / 2)) q.first_le_x.0 c.if-end-x.false q.first_le_x.1 refl (c.min.ensures ∙ omega arith) c.put_tree-l.ensures c.if-l-middle.true
 
 pub overflow_add-p : goal.overflow_add-p
 overflow_add-p t c =
@@ -81,15 +75,15 @@ put_tree-r-requires t c =
     let s = output-count-step c.args.m two in
     let r = rest-word c.args.m two q.le_m.1 in
     let k = ran-kept _ c.put_tree-l.ensures in
-    (rest-falls c.args.m two c.decreases, ((r.0, r.1, rest_among c.args.v c.args.m q.le_m.2, rest-outputs c.args.o (tree_output_count c.args.m) c.args.m (tree_output_count (c.args.m / 2)) (tree_output_count (c.args.m - c.args.m / 2)) p s e q.le_m.3), ((nothing-less _, le_refl _), ((c.if-y-middle.false, le_trans c.least-2.ensures.1 (places c.args.first c.args.m two), under-word c.args.first c.args.m two q.first_le_x.2, k.1), (right-longer c.args.m c.args.v c.args.o c.args.low c.args.high two c.args.most p e q.no_longer.0, q.no_longer.1)))))
+    (rest-falls c.args.m two c.decreases, ((r.0, r.1, rest_among c.args.v c.args.m q.le_m.2, rest-outputs c.args.o (tree_output_count c.args.m) c.args.m (tree_output_count (c.args.m / 2)) (tree_output_count (c.args.m - c.args.m / 2)) p s e q.le_m.3), ((nothing-less _, le_refl _), ((c.if-l-middle.false, le_trans (omega (arith, c.min-2.ensures)) (places c.args.first c.args.m two), under-word c.args.first c.args.m two q.first_le_x.2, k.1), (right-longer c.args.m c.args.v c.args.o c.args.low c.args.high two c.args.most p e q.no_longer.0, q.no_longer.1)))))
 
-pub returns-then-z-last : goal.returns-then-z-last
-returns-then-z-last t c =
+pub returns-then-r-last : goal.returns-then-r-last
+returns-then-r-last t c =
     let q = c.requires in
     let two = tree_of c.args.first c.args.x c.args.end c.args.m q.first_le_x.0 c.if-end-x.false q.first_le_x.1 in
     let p = c.args.o + c.output_count.result in
     let e = ap (λ (n : ℕ). c.args.o + n) (c.output_count.ensures ∙ within_word (c.args.m / 2) (half-word c.args.m q.le_m.1)) in
-    ran-right c.args.m c.args.v c.args.o c.args.low c.args.high two c.args.first c.args.x c.args.end p q.first_le_x.0 c.if-end-x.false q.first_le_x.1 e c.least.ensures.0 c.put_tree-l.ensures c.if-y-middle.false c.least-2.ensures.0 c.put_tree-r.ensures c.if-z-last.true
+    ran-right c.args.m c.args.v c.args.o c.args.low c.args.high two c.args.first c.args.x c.args.end p q.first_le_x.0 c.if-end-x.false q.first_le_x.1 e (c.min.ensures ∙ omega arith) c.put_tree-l.ensures c.if-l-middle.false (c.min-2.ensures ∙ omega arith) c.put_tree-r.ensures c.if-r-last.true
 
 pub returns-then-end-last : goal.returns-then-end-last
 returns-then-end-last t c =
@@ -97,16 +91,7 @@ returns-then-end-last t c =
     let two = tree_of c.args.first c.args.x c.args.end c.args.m q.first_le_x.0 c.if-end-x.false q.first_le_x.1 in
     let p = c.args.o + c.output_count.result in
     let e = ap (λ (n : ℕ). c.args.o + n) (c.output_count.ensures ∙ within_word (c.args.m / 2) (half-word c.args.m q.le_m.1)) in
-    ran-halves c.args.m c.args.v c.args.o c.args.low c.args.high two c.args.first c.args.x c.args.end p q.first_le_x.0 c.if-end-x.false q.first_le_x.1 e c.least.ensures.0 c.put_tree-l.ensures c.if-y-middle.false c.least-2.ensures.0 c.put_tree-r.ensures c.if-end-last.true
-
-pub overflow_sub-left : goal.overflow_sub-left
-overflow_sub-left t c = (ran-kept _ c.put_tree-r.ensures).1
-
-pub own_fits-requires : goal.own_fits-requires
-own_fits-requires t c =
-    let q = c.requires in
-    let two = tree_of c.args.first c.args.x c.args.end c.args.m q.first_le_x.0 c.if-end-x.false q.first_le_x.1 in
-    record { le_m = (two, q.le_m.1, q.le_m.2, q.le_m.3); low_le_m = q.low_le_m; m_len_bound = le_trans (q.no_longer.0 (c.args.m - 2) (last-node c.args.m two)) q.no_longer.1 }
+    ran-halves c.args.m c.args.v c.args.o c.args.low c.args.high two c.args.first c.args.x c.args.end p q.first_le_x.0 c.if-end-x.false q.first_le_x.1 e (c.min.ensures ∙ omega arith) c.put_tree-l.ensures c.if-l-middle.false (c.min-2.ensures ∙ omega arith) c.put_tree-r.ensures c.if-end-last.true
 
 pub returns-then-not-own_fits : goal.returns-then-not-own_fits
 returns-then-not-own_fits t c =
@@ -116,23 +101,7 @@ returns-then-not-own_fits t c =
     let e = ap (λ (n : ℕ). c.args.o + n) (c.output_count.ensures ∙ within_word (c.args.m / 2) (half-word c.args.m q.le_m.1)) in
     let l = does-not-fit (tree_text c.args.m c.args.v c.args.o c.args.low c.args.high (c.args.m - 2)) _ c.own_fits.ensures c.if-not-own_fits.true in
     let k = ran-kept _ c.put_tree-r.ensures in
-    ran-no-own c.args.m c.args.v c.args.o c.args.low c.args.high two c.args.first c.args.x c.args.end p q.first_le_x.0 c.if-end-x.false q.first_le_x.1 e c.least.ensures.0 c.put_tree-l.ensures c.if-y-middle.false c.least-2.ensures.0 c.put_tree-r.ensures c.if-z-last.false c.if-end-last.false k.1 l
-
-pub put_own-n-requires : goal.put_own-n-requires
-put_own-n-requires t c =
-    let q = c.requires in
-    let two = tree_of c.args.first c.args.x c.args.end c.args.m q.first_le_x.0 c.if-end-x.false q.first_le_x.1 in
-    let k = ran-kept _ c.put_tree-r.ensures in
-    record {
-      le_m = (two, q.le_m.1, q.le_m.2, q.le_m.3);
-      low_le_m = q.low_le_m;
-      m_in_bounds = room
-          (elim c.if-left-most.branch [
-            | then-left-most+else-not-own_fits f ↦ does-fit (tree_text c.args.m c.args.v c.args.o c.args.low c.args.high (c.args.m - 2)) _ f.own_fits.ensures f.if-not-own_fits.false
-            | else-left-most f ↦ le_trans (q.no_longer.0 (c.args.m - 2) (last-node c.args.m two)) f.if-left-most.false
-          ])
-          k.1;
-    }
+    ran-no-own c.args.m c.args.v c.args.o c.args.low c.args.high two c.args.first c.args.x c.args.end p q.first_le_x.0 c.if-end-x.false q.first_le_x.1 e (c.min.ensures ∙ omega arith) c.put_tree-l.ensures c.if-l-middle.false (c.min-2.ensures ∙ omega arith) c.put_tree-r.ensures c.if-r-last.false c.if-end-last.false k.1 l
 
 pub overflow_add-result : goal.overflow_add-result
 overflow_add-result t c =
@@ -140,7 +109,7 @@ overflow_add-result t c =
     let two = tree_of c.args.first c.args.x c.args.end c.args.m q.first_le_x.0 c.if-end-x.false q.first_le_x.1 in
     let p = c.args.o + c.output_count.result in
     let e = ap (λ (n : ℕ). c.args.o + n) (c.output_count.ensures ∙ within_word (c.args.m / 2) (half-word c.args.m q.le_m.1)) in
-    let z = own-place c.args.m c.args.v c.args.o c.args.low c.args.high two c.args.first c.args.x c.args.end p q.first_le_x.0 c.if-end-x.false q.first_le_x.1 e c.least.ensures.0 c.put_tree-l.ensures c.if-y-middle.false c.least-2.ensures.0 c.put_tree-r.ensures c.if-z-last.false c.if-end-last.false in
+    let z = own-place c.args.m c.args.v c.args.o c.args.low c.args.high two c.args.first c.args.x c.args.end p q.first_le_x.0 c.if-end-x.false q.first_le_x.1 e (c.min.ensures ∙ omega arith) c.put_tree-l.ensures c.if-l-middle.false (c.min-2.ensures ∙ omega arith) c.put_tree-r.ensures c.if-r-last.false c.if-end-last.false in
     omega (arith, small-next c.args.first c.args.m z q.first_le_x.2 q.le_m.1)
 
 pub returns : goal.returns
@@ -149,4 +118,4 @@ returns t c =
     let two = tree_of c.args.first c.args.x c.args.end c.args.m q.first_le_x.0 c.if-end-x.false q.first_le_x.1 in
     let p = c.args.o + c.output_count.result in
     let e = ap (λ (n : ℕ). c.args.o + n) (c.output_count.ensures ∙ within_word (c.args.m / 2) (half-word c.args.m q.le_m.1)) in
-    ran-own c.args.m c.args.v c.args.o c.args.low c.args.high two c.args.first c.args.x c.args.end p q.first_le_x.0 c.if-end-x.false q.first_le_x.1 e c.least.ensures.0 c.put_tree-l.ensures c.if-y-middle.false c.least-2.ensures.0 c.put_tree-r.ensures c.if-z-last.false c.if-end-last.false c.put_own-n.ensures refl
+    ran-own c.args.m c.args.v c.args.o c.args.low c.args.high two c.args.first c.args.x c.args.end p q.first_le_x.0 c.if-end-x.false q.first_le_x.1 e (c.min.ensures ∙ omega arith) c.put_tree-l.ensures c.if-l-middle.false (c.min-2.ensures ∙ omega arith) c.put_tree-r.ensures c.if-r-last.false c.if-end-last.false c.put_own-n.ensures refl

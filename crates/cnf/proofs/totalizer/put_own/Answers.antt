@@ -9,9 +9,6 @@ use Rattle.cnf.proofs.Trees.{root_among}
 use Rattle.cnf.proofs.Subtrees.{own_is, own-length}
 use Rattle.cnf.proofs.totalizer.put_own.Goals as goal
 
-pub own_node-t-requires : goal.own_node-t-requires
-own_node-t-requires c = c.requires.le_m
-
 pub put_node-x-requires : goal.put_node-x-requires
 put_node-x-requires c =
     let t = c.own_node-t in

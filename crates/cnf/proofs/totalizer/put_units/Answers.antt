@@ -1,21 +1,14 @@
-use mathlib.Core.Path.{◌≡◌, ap}
-use Prim.Native.Nat.{ℕ, ◌+◌}
+use mathlib.Core.Path.{ap}
+use Prim.Native.Nat.{◌+◌}
 use lib.ListN.{length}
-use Rattle.model.specs.Lists.{each, range}
 use Rattle.cnf.specs.Parts.{unit_text}
-use Rattle.text.proofs.Writes.{done, loop-turn, loop-room, same_text}
+use Rattle.text.proofs.Writes.{loop-turn, loop-room, same_text}
 use Rattle.cnf.proofs.Trees.{unit-is}
 use native.Mathlib.Omega.{arith}
 use Rattle.cnf.proofs.totalizer.put_units.Goals as goal
 
-pub loop-i-init : goal.loop-i-init
-loop-i-init c = (omega arith, done _ _ (omega arith))
-
 pub put_unit-n-requires : goal.put_unit-n-requires
-put_unit-n-requires c = omega (arith, loop-room (unit_text c.args.positive c.args.first) c.args.a c.loop-i.i c.args.k c.loop-i.invariant.1 c.loop-i-test.true c.requires.k_in_bounds, ap length (unit-is c.args.positive c.args.first (c.args.a + c.loop-i.i)))
+put_unit-n-requires c = omega (arith, loop-room (unit_text c.args.positive c.args.first) c.args.a c.loop-i.i c.args.k c.loop-i.invariant c.loop-i-test.true c.requires.k_in_bounds, ap length (unit-is c.args.positive c.args.first (c.args.a + c.loop-i.i)))
 
 pub loop-i-preserved : goal.loop-i-preserved
-loop-i-preserved c = (omega arith, loop-turn (unit_text c.args.positive c.args.first) c.args.a c.loop-i.i c.loop-i.invariant.1 (same_text (unit-is c.args.positive c.args.first (c.args.a + c.loop-i.i)) c.put_unit-n.ensures))
-
-pub returns : goal.returns
-returns c = let e : c.loop-i.i ≡ c.args.k = omega arith in same_text (ap (λ (k : ℕ). each (unit_text c.args.positive c.args.first) (range c.args.a k)) e) c.loop-i.invariant.1
+loop-i-preserved c = loop-turn (unit_text c.args.positive c.args.first) c.args.a c.loop-i.i c.loop-i.invariant (same_text (unit-is c.args.positive c.args.first (c.args.a + c.loop-i.i)) c.put_unit-n.ensures)

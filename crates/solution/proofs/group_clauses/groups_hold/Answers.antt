@@ -4,35 +4,27 @@ use lib.ListN.{take}
 use Rattle.model.specs.Model.{zero_group}
 use Rattle.model.specs.Close.{assignment_of}
 use Rattle.numbering.proofs.Models.{variable-from, output-from}
-use Rattle.solution.proofs.Groups.{group-is, holds_at, rest_all, rest-stops, rest_goes, rest-done}
+use Rattle.solution.proofs.Groups.{group-is, holds_at, rest-stops, rest_goes}
 use Rattle.solution.proofs.group_clauses.groups_hold.Goals as goal
-
-pub loop-i-init : goal.loop-i-init
-loop-i-init c =
-    (omega arith, rest_all (assignment_of c.args.values.now) (take c.args.s c.args.groups) c.args.words.now c.args.s)
 
 pub returns-then-not-group_holds : goal.returns-then-not-group_holds
 unfolding zero_group
 returns-then-not-group_holds c =
     let i = c.loop-i.i in
     let a = assignment_of c.args.values.now in
-    let t = take c.args.s c.args.groups in
+    let t = take c.args.s c.args.groups.now in
     let v = c.wide-v.ensures.0 ∙ variable-from t c.args.first.now i (omega arith) c.requires.first_value.0 in
     let o = c.wide-o.ensures.0 ∙ output-from t c.args.outputs.now i (omega arith) c.requires.first_value.1 in
-    let h = holds_at a t c.args.words.now i _ _ _ _ (group-is c.args.groups c.args.s i (omega arith)) v o c.group_holds.ensures in
-    rest-stops a t c.args.words.now c.args.s i c.loop-i.invariant.1 _ h (omega arith) c.if-not-group_holds.true
+    let h = holds_at a t c.args.words.now i _ _ _ _ (group-is c.args.groups.now c.args.s i (omega arith)) v o c.group_holds.ensures in
+    rest-stops a t c.args.words.now c.args.s i c.loop-i.invariant _ h (omega arith) c.if-not-group_holds.true
 
 pub loop-i-preserved : goal.loop-i-preserved
 unfolding zero_group
 loop-i-preserved c =
     let i = c.loop-i.i in
     let a = assignment_of c.args.values.now in
-    let t = take c.args.s c.args.groups in
+    let t = take c.args.s c.args.groups.now in
     let v = c.wide-v.ensures.0 ∙ variable-from t c.args.first.now i (omega arith) c.requires.first_value.0 in
     let o = c.wide-o.ensures.0 ∙ output-from t c.args.outputs.now i (omega arith) c.requires.first_value.1 in
-    let h = holds_at a t c.args.words.now i _ _ _ _ (group-is c.args.groups c.args.s i (omega arith)) v o c.group_holds.ensures in
-    (omega arith, rest_goes a t c.args.words.now c.args.s i c.loop-i.invariant.1 _ h (omega arith) c.if-not-group_holds.false)
-
-pub returns : goal.returns
-returns c =
-    rest-done (assignment_of c.args.values.now) (take c.args.s c.args.groups) c.args.words.now c.args.s c.loop-i.i c.loop-i.invariant.1 (omega arith)
+    let h = holds_at a t c.args.words.now i _ _ _ _ (group-is c.args.groups.now c.args.s i (omega arith)) v o c.group_holds.ensures in
+    rest_goes a t c.args.words.now c.args.s i c.loop-i.invariant _ h (omega arith) c.if-not-group_holds.false

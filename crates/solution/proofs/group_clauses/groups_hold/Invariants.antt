@@ -1,12 +1,8 @@
 -- `groups_hold` tests the first s groups. Invariant: the test of all is the test of those from i on. Assumes nothing.
-use Prim.Native.Nat.{◌≤◌, ◌-◌}
 use lib.ListN.{take}
 use Rattle.model.specs.Close.{assignment_of}
 use Rattle.solution.proofs.Groups.{Rest}
 use Rattle.solution.proofs.group_clauses.groups_hold.Given as goal
 
 abbrev pub invariant-loop-i : goal.invariant-loop-i
-invariant-loop-i l = (l.i ≤ l.s) × Rest (assignment_of l.values) (take l.s l.groups) l.words l.s l.i
-
-abbrev pub decreases-loop-i : goal.decreases-loop-i
-decreases-loop-i l = l.s - l.i
+invariant-loop-i l = Rest (assignment_of l.values) (take l.s l.groups) l.words l.s l.i

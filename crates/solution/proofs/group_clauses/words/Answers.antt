@@ -1,6 +1,6 @@
-use mathlib.Core.Path.{◌≡◌, refl, ap, ◌∙◌}
+use mathlib.Core.Path.{refl, ◌∙◌}
 use native.Mathlib.Omega.{arith}
-use lib.ListN.{take, length-set}
+use lib.ListN.{take}
 use Rattle.model.specs.Model.{zero_group}
 use Rattle.model.specs.Close.{assignment_of}
 use Rattle.solution.specs.Holds.{table_words}
@@ -10,25 +10,14 @@ use Rattle.solution.proofs.group_clauses.words.Goals as goal
 
 pub loop-i-init : goal.loop-i-init
 unfolding table_words
-loop-i-init c = (omega arith, refl, refl)
-
-pub bounds-r-i : goal.bounds-r-i
-bounds-r-i c = omega (arith, c.loop-i.invariant.1)
+loop-i-init c = refl
 
 pub loop-i-preserved : goal.loop-i-preserved
 unfolding zero_group
 loop-i-preserved c =
     let i = c.loop-i.i in
     let a = assignment_of c.args.values.now in
-    let t = take c.args.s c.args.groups in
+    let t = take c.args.s c.args.groups.now in
     let v = c.wide-v.ensures.0 ∙ variable-from t c.args.first.now i (omega arith) c.requires.first_value in
-    let x = word-at c.args.n a t i _ _ _ (group-is c.args.groups c.args.s i (omega arith)) v c.word_of.ensures in (
-      omega arith,
-      simp length-set c.loop-i.invariant.1,
-      words-next c.args.n a t c.loop-i.r i _ c.loop-i.invariant.2 (omega arith) x,
-    )
-
-pub returns : goal.returns
-returns c =
-    let q : c.loop-i.i ≡ c.args.s = omega arith in
-    (c.loop-i.invariant.1, c.loop-i.invariant.2 ∙ ap (table_words c.args.n (assignment_of c.args.values.now) (take c.args.s c.args.groups)) q)
+    let x = word-at c.args.n a t i _ _ _ (group-is c.args.groups.now c.args.s i (omega arith)) v c.word_of.ensures in
+    words-next c.args.n a t c.loop-i.r i _ c.loop-i.invariant (omega arith) x

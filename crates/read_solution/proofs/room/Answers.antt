@@ -1,7 +1,0 @@
--- `room` is as long as the longest line. Assumes nothing.
-use Prim.Native.Nat.{ℕ}
-use lib.ListN.{length-replicate}
-use Rattle.read_solution.proofs.room.Goals as goal
-
-pub returns : goal.returns
-returns c = length-replicate {A = ℕ} 1048576 0
