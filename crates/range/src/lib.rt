@@ -53,19 +53,20 @@ pub fn all_between(ids: [u32; Model::MEMBERS], k: usize, s: u32) -> bool
     ids.iter().take(k).all(|id| 1 <= *id && *id <= s)
 }
 
-// Whether x stands among the first k numbers, from place i on.
-fn stands(ids: &[u32; Model::MEMBERS], i: usize, k: usize, x: u32) -> bool
-    ensures { result ≡ list_any (eqb x) (drop i (take k ids.now)) }
+// Whether x stands among the numbers.
+fn stands(ids: &[u32], x: u32) -> bool
+    ensures { result ≡ list_any (eqb x) ids.now }
 {
-    ids.iter().take(k).skip(i).any(|id| x == *id)
+    ids.iter().any(|id| x == *id)
 }
 
 // The first k numbers are all different.
 pub fn all_distinct(ids: [u32; Model::MEMBERS], k: usize) -> bool
     ensures { result ≡ distinct (take k ids) }
 {
-    for i in 0..k.min(Model::MEMBERS) {
-        if stands(&ids, i + 1, k, ids[i]) {
+    let first = &ids[..k.min(Model::MEMBERS)];
+    for i in 0..first.len() {
+        if stands(&first[i + 1..], first[i]) {
             return false;
         }
     }

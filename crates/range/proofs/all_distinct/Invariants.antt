@@ -5,4 +5,4 @@ use Rattle.model.specs.Lists.{distinct}
 use Rattle.range.proofs.all_distinct.Given as goal
 
 abbrev pub invariant-loop-i : goal.invariant-loop-i
-invariant-loop-i l = distinct (take l.k l.ids) ≡ distinct (drop l.i (take l.k l.ids))
+invariant-loop-i l = distinct (take l.k l.fn.ids) ≡ distinct (drop l.i l.first)
