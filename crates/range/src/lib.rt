@@ -57,20 +57,33 @@ pub fn all_between(ids: [u32; Model::MEMBERS], k: usize, s: u32) -> bool
 fn stands(ids: &[u32], x: u32) -> bool
     ensures { result ≡ list_any (eqb x) ids.now }
 {
-    ids.iter().any(|id| x == *id)
+    let mut found = false;
+    for id in ids {
+        found |= x == *id;
+    }
+    found
 }
 
-// The first k numbers are all different.
-pub fn all_distinct(ids: [u32; Model::MEMBERS], k: usize) -> bool
-    ensures { result ≡ distinct (take k ids) }
+// The numbers are all different.
+fn distinct(ids: &[u32]) -> bool
+    ensures { result ≡ distinct ids.now }
 {
-    let first = &ids[..k.min(Model::MEMBERS)];
-    for i in 0..first.len() {
-        if stands(&first[i + 1..], first[i]) {
+    for i in 0..ids.len() {
+        if stands(&ids[i + 1..], ids[i]) {
             return false;
         }
     }
     true
+}
+
+// The first k numbers are all different. A whole row, which the longest union has, is told apart, since its length is a constant.
+pub fn all_distinct(ids: [u32; Model::MEMBERS], k: usize) -> bool
+    ensures { result ≡ distinct (take k ids) }
+{
+    if k < Model::MEMBERS {
+        return distinct(&ids[..k]);
+    }
+    distinct(&ids)
 }
 
 // A code is 1 to 7, and the count of code 6 is 2 to 16.
