@@ -8,6 +8,8 @@ ghost use Rattle.model.specs.Lists.{total, on_place};
 ghost use Rattle.model.specs.Model.{group_at};
 ghost use Rattle.model.specs.LimitRules.{raised, lowered, low_at_least, high_at_most, low_first, high_first, union_limits, limit_rules};
 ghost use Rattle.model.specs.Propagate.{run};
+ghost use Rattle.table.specs.Table.{fixed_of, possible_of, lows, highs};
+ghost use Rattle.limit_rule.specs.Moves.{Moves, lows_after, highs_after};
 
 use model::{Constraint, Model};
 use table::Table;
@@ -123,7 +125,11 @@ fn union_limits(t: &mut Table, h: u32, fs: &[u32])
 
 // Its steps in order, whatever the groups' entrants are.
 pub fn applied(t: &mut Table, c: &Constraint)
-    ensures { t.new ≡ run (limit_rules c.now) t.old }
+    ensures value { t.new ≡ run (limit_rules c.now) t.old }
+    ensures low_after { lows t.new ≡ lows_after c.now (lows t.old) (highs t.old) }
+    ensures high_after { highs t.new ≡ highs_after c.now (lows t.old) (highs t.old) }
+    ensures moves { Moves (run (limit_rules c.now)) (lows t.old) (highs t.old) (lows t.new) (highs t.new) }
+    ensures sets { (fixed_of t.new ≡ fixed_of t.old) × (possible_of t.new ≡ possible_of t.old) }
 {
     let ids = &c.groups;
     match c.code {

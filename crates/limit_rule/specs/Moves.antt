@@ -1,0 +1,23 @@
+-- What a rule of the limits alone does to the limits of a table, as two lists, whatever its sets are.
+use Rattle.std.specs.Prelude.{ℕ, List, map, replicate}
+use Rattle.model.specs.declared.Group.{Group}
+use Rattle.model.specs.declared.Constraint.{Constraint}
+use Rattle.model.specs.Limits.{limits}
+use Rattle.model.specs.LimitRules.{limit_rules}
+use Rattle.model.specs.Propagate.{run}
+use Rattle.table.specs.Table.{zipped, Changes}
+
+-- from one pair of lists, low and high, to another, whatever the sets fixed and possible are
+abbrev pub Moves : (List Group → List Group) → List ℕ → List ℕ → List ℕ → List ℕ → Type 0
+Moves r l h l₁ h₁ = (f p : List ℕ) → Changes r (zipped f p l h) (zipped f p l₁ h₁)
+
+-- ---- the limits alone, as a table without entrants
+
+unfoldable pub limit_table : List ℕ → List ℕ → List Group
+limit_table l h = zipped (replicate limits.groups 0) (replicate limits.groups 0) l h
+
+unfoldable pub lows_after : Constraint → List ℕ → List ℕ → List ℕ
+lows_after c l h = map (λ g. g.low) (run (limit_rules c) (limit_table l h))
+
+unfoldable pub highs_after : Constraint → List ℕ → List ℕ → List ℕ
+highs_after c l h = map (λ g. g.high) (run (limit_rules c) (limit_table l h))
