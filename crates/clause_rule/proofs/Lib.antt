@@ -1,3 +1,4 @@
 pub mod Places
 pub mod Outside
 pub mod Walks
+pub mod Alone

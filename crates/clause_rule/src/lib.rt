@@ -8,6 +8,8 @@ ghost use Rattle.model.specs.Lists.{range};
 ghost use Rattle.model.specs.Model.{group_at};
 ghost use Rattle.model.specs.Clauses.{of_group, union_clauses, rule_clauses, clauses_of};
 ghost use Rattle.model.specs.Propagate.{false_in, made_true, literal_rule, clause_rule, run};
+ghost use Rattle.table.specs.Table.{fixed_of, possible_of, lows, highs};
+ghost use Rattle.clause_rule.specs.Sets.{Settles};
 ghost use Rattle.clause_rule.specs.Union.{long_clause, words_of, outside, in_one_at_most};
 
 use model::{Constraint, Group, Literal, Model, without};
@@ -203,9 +205,10 @@ fn short_rules(t: &mut Table, ids: &[u32; Model::MEMBERS], w: u64, code: u32)
 }
 
 // In order, for the entrants of w.
-#[tactic(auto, using(crate::proofs::Walks::none_clauses), unfolding(model::specs::Clauses::clauses_of, model::specs::Clauses::rule_clauses, model::specs::Clauses::member_clauses))]
 pub fn applied(t: &mut Table, c: &Constraint, w: u64)
-    ensures { t.new ≡ run (map (clause_rule w) (clauses_of c.now)) t.old }
+    ensures value { t.new ≡ run (map (clause_rule w) (clauses_of c.now)) t.old }
+    ensures settles { Settles (run (map (clause_rule w) (clauses_of c.now))) (fixed_of t.old) (possible_of t.old) (fixed_of t.new) (possible_of t.new) }
+    ensures limits { (lows t.new ≡ lows t.old) × (highs t.new ≡ highs t.old) }
 {
     if w == 0 {
         return;
