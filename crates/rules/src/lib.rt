@@ -5,7 +5,8 @@ ghost use Rattle.std.specs.Prelude.{◌≡◌, map, ◌+◌};
 ghost use Rattle.model.specs.Lists.{range};
 ghost use Rattle.model.specs.Difference.{lone, unlike_in, may_differ};
 ghost use Rattle.model.specs.Propagate.{group_rule_at, run};
-ghost use Rattle.rules.specs.Among.{scope_among, rule_among};
+ghost use Rattle.table.specs.Table.{fixed_of, possible_of};
+ghost use Rattle.rules.specs.Among.{scope_among, rule_among, MayDiffer};
 ghost use Rattle.rules.specs.Differing.{Differing};
 
 use model::{Constraint, Model};
@@ -67,7 +68,8 @@ fn scope(t: &Table, all: u64, c: &Constraint) -> u64
 // False is refusal 21: code 7, and all entrants are settled alike.
 #[tactic(auto, unfolding(model::specs::Difference::may_differ, model::specs::Clauses::is_difference))]
 pub fn may_differ(t: &Table, c: &Constraint) -> bool
-    ensures { result ≡ may_differ t.now c.now }
+    ensures value { result ≡ may_differ t.now c.now }
+    ensures whatever_limits { MayDiffer result (fixed_of t.now) (possible_of t.now) c.now }
 {
     if c.code != 7 {
         return true;
