@@ -19,7 +19,8 @@ use Rattle.model.proofs.Loops.{drop-next}
 use Rattle.marks.specs.Marks.{marked, with_mark, without_mark, AddsRow}
 use Rattle.marks.proofs.Bits.{mark_set, mark-cleared}
 use Rattle.propagation_laws.proofs.Locality.{owns, kept, on_group, on-constraint}
-use Rattle.propagate.specs.Skip.{line_at, Index, Quiet, Covers, Whole, Notes, NotesAll, DifferIn, Step, Any, Line}
+use Rattle.table.specs.Table.{Whole}
+use Rattle.propagate.specs.Skip.{line_at, Index, Quiet, Covers, Notes, NotesAll, DifferIn, Step, Any, Line}
 
 -- ---- what is covered
 

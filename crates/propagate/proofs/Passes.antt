@@ -32,9 +32,10 @@ use Rattle.model.proofs.LimitRules.{all-limits}
 use Rattle.propagation_laws.proofs.Meaning.{rule_clauses_lem}
 use Rattle.propagation_laws.proofs.Ranges.{constraint-code, groups-in, member_below, InRange, in_range_lem}
 use Rattle.model.proofs.Words.{entrants-full}
+use Rattle.table.specs.Table.{Whole}
 use Rattle.table.proofs.Rules.{run-append}
 use Rattle.rules.specs.Among.{scope_among, rule_among}
-use Rattle.propagate.specs.Skip.{Whole, After}
+use Rattle.propagate.specs.Skip.{After}
 
 -- ---- the rules of a pass, on all places
 

@@ -21,7 +21,8 @@ use Rattle.propagation_laws.proofs.ConstraintRule.{constraint_frame, all-rules}
 use Rattle.propagate.proofs.Passes.{s-few, pass-local, pass-first, propagated_in, passes-few}
 use Rattle.propagation_laws.proofs.AtTheEnd.{late, at-the-end}
 use Rattle.propagate.proofs.Skipping.{loose-start, loose-more, loose-ends}
-use Rattle.propagate.specs.Skip.{Whole, loose, tenable_first, Ran}
+use Rattle.table.specs.Table.{Whole}
+use Rattle.propagate.specs.Skip.{loose, tenable_first, Ran}
 
 abbrev on_table : (List Group → List Group) → Outcome (List Group) → Outcome (List Group)
 on_table f contradiction = contradiction

@@ -10,6 +10,7 @@ use Rattle.model.specs.Clauses.{groups_of}
 use Rattle.model.specs.Model.{zero_group, zero_constraint, code_in_range, constraint_sized}
 use Rattle.model.specs.Propagate.{group_rule_at, constraint_rule, run, rules, tenable, same_table, Outcome, contradiction, fixpoint, iterate}
 use Rattle.marks.specs.Marks.{marked}
+use Rattle.table.specs.Table.{Whole}
 use Rattle.propagation_laws.proofs.Locality.{owns}
 use Rattle.propagation_laws.proofs.AtTheEnd.{late}
 use Rattle.propagate.specs.declared.Run.{Run}
@@ -41,10 +42,6 @@ pub record Covers (index gs ls : List ℕ) (x : List Group) (gs₁ ls₁ : List 
   pub groups : (i : ℕ) → marked gs₁ i ≡ false → (marked gs i ≡ false) × (get_or y i zero_group ≡ get_or x i zero_group)
   pub lines : (j : ℕ) → j < 256 → marked ls₁ j ≡ false
       → (marked ls j ≡ false) × ((i : ℕ) → marked index (256 * i + j) ≡ true → get_or y i zero_group ≡ get_or x i zero_group)
-
--- the table has its places
-abbrev pub Whole : List Group → Type 0
-Whole t = length t ≡ limits.groups
 
 -- u is the table, x the one last seen and y the one seen now, which has the group at place i; r is whether it differed
 pub record Notes (r : Bool) (i : ℕ) (index : List ℕ) (u x y : List Group) (gs ls gs₁ ls₁ : List ℕ) : Type 0 where
