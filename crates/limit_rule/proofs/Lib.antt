@@ -1,3 +1,4 @@
 pub mod Steps
 pub mod Codes
 pub mod Alone
+pub mod InOrder

@@ -11,6 +11,13 @@ use Rattle.table.specs.Table.{zipped, Changes}
 abbrev pub Moves : (List Group → List Group) → List ℕ → List ℕ → List ℕ → List ℕ → Type 0
 Moves r l h l₁ h₁ = (f p : List ℕ) → Changes r (zipped f p l h) (zipped f p l₁ h₁)
 
+-- a rule of low alone, and of high alone
+abbrev pub MovesLow : (List Group → List Group) → List ℕ → List ℕ → Type 0
+MovesLow r l l₁ = (h : List ℕ) → Moves r l h l₁ h
+
+abbrev pub MovesHigh : (List Group → List Group) → List ℕ → List ℕ → Type 0
+MovesHigh r h h₁ = (l : List ℕ) → Moves r l h l h₁
+
 -- ---- the limits alone, as a table without entrants
 
 unfoldable pub limit_table : List ℕ → List ℕ → List Group
