@@ -6,21 +6,14 @@ ghost use Rattle.lines.specs.Cut.{cutting, cut_bytes};
 ghost use Rattle.lines.specs.Lines.{ReadFrom};
 
 use console::Streams;
-use lines::{Cut, Fed};
+use lines::Cut;
 use model::Reading;
 use std::io::Stdin;
 
 // The longest line that is read. A `v` line that says each of 59,392 variables once has less than 500,000 bytes.
 pub const LONGEST: usize = 1048576;
 
-// A line that is refused is reported on standard error, and reading goes on.
-fn report_line(to: Streams, fed: Fed) {
-    if fed.refusal != 0 {
-        console::warn(to, report::refused_line(fed.line, fed.refusal));
-    }
-}
-
-// One piece of the output.
+// One piece of the output. A line that is refused is reported on standard error, and reading goes on.
 fn take_piece(to: Streams, cut: Cut, piece: &[u8], space: &mut [u8], values: &mut [u8]) -> Cut
     ensures value { result ≡ (cut_bytes piece.now (cutting cut space.old values.old)).cut }
     ensures space_after { space.new ≡ (cut_bytes piece.now (cutting cut space.old values.old)).space }
@@ -30,7 +23,9 @@ fn take_piece(to: Streams, cut: Cut, piece: &[u8], space: &mut [u8], values: &mu
     let mut at: usize = 0;
     while at < piece.len() {
         let fed = lines::feed(state, &piece[at..], space, values);
-        report_line(to, fed);
+        if fed.refusal != 0 {
+            console::warn(to, report::refused_line(fed.line, fed.refusal));
+        }
         let next = fed.cut;
         state = next;
         at += fed.used;
@@ -60,6 +55,8 @@ pub fn read_lines(input: Stdin, to: Streams, values: &mut [u8]) -> Reading
         cut = take_piece(to, cut, &piece[..n], &mut space, values);
     }
     let last = lines::finish(cut, &space, values);
-    report_line(to, last);
+    if last.refusal != 0 {
+        console::warn(to, report::refused_line(last.line, last.refusal));
+    }
     last.cut.reading
 }
