@@ -17,6 +17,13 @@ node-some a b =
     let h : 1 * 1 ≤ (a + 1) * (b + 1) = mul-le-mul p q in
     omega (arith, h)
 
+pub node-few : (a b : ℕ) → a ≤ limits.word → b ≤ limits.word → (a + 1) * (b + 1) ≤ 5000
+node-few a b p q =
+    let i : a + 1 ≤ limits.word + 1 = omega arith in
+    let j : b + 1 ≤ limits.word + 1 = omega arith in
+    let h : (a + 1) * (b + 1) ≤ (limits.word + 1) * (limits.word + 1) = mul-le-mul i j in
+    omega (arith, h)
+
 -- ---- a tree's
 
 -- a leaf, and two

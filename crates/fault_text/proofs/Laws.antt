@@ -29,6 +29,7 @@ name_length name.Code = omega arith
 name_length name.Count = omega arith
 name_length name.Kind = omega arith
 name_length name.NextGroup = omega arith
+name_length (name.Other n) = omega arith
 
 pub add-name : (x : Name) {m r : Message} {v t : List ℕ} {k : ℕ} → r ≡ added m v → v ≡ name_text x → Says m t k → Says r (t ++ name_text x) (k + 49)
 add-name x = picked (name_text x) 49 (name_length x)

@@ -27,6 +27,7 @@ name_text name.Code = bytes "the code"
 name_text name.Count = bytes "the count of code 6"
 name_text name.Kind = bytes "the first field of the head"
 name_text name.NextGroup = bytes "the number of this group"
+name_text (name.Other n) = []
 
 -- bytes that do not print are shown as `?`
 unfoldable pub shown_byte : ℕ → ℕ

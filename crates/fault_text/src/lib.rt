@@ -26,6 +26,7 @@ fn name(name: Name) -> &'static [u8]
         Name::Count => b"the count of code 6",
         Name::Kind => b"the first field of the head",
         Name::NextGroup => b"the number of this group",
+        Name::Other(_) => b"",
     }
 }
 

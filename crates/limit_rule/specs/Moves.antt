@@ -1,11 +1,15 @@
 -- What a rule of the limits alone does to the limits of a table, as two lists, whatever its sets are.
-use Rattle.std.specs.Prelude.{ℕ, List, map, replicate}
+use Rattle.std.specs.Prelude.{ℕ, ◌-◌, cond, List, map, ltb, get_or, replicate}
 use Rattle.model.specs.declared.Group.{Group}
 use Rattle.model.specs.declared.Constraint.{Constraint}
 use Rattle.model.specs.Limits.{limits}
 use Rattle.model.specs.LimitRules.{limit_rules}
 use Rattle.model.specs.Propagate.{run}
 use Rattle.table.specs.Table.{zipped, Changes}
+
+-- the limit of group g, and 0 where there is no such group
+unfoldable pub limit_of : List ℕ → ℕ → ℕ
+limit_of l g = cond (ltb (g - 1) limits.groups) (get_or l (g - 1) 0) 0
 
 -- from one pair of lists, low and high, to another, whatever the sets fixed and possible are
 abbrev pub Moves : (List Group → List Group) → List ℕ → List ℕ → List ℕ → List ℕ → Type 0

@@ -51,6 +51,8 @@ pub enum Name {
     Kind,
     // the group whose line is due
     NextGroup,
+    // by a number that has no name
+    Other(u32),
 }
 
 // What a number is, with the least and the most that it may be.

@@ -22,6 +22,8 @@ pub enum Phase {
     Forgotten,
     // none
     End,
+    // none, by a number that has no name
+    Other(u32),
 }
 
 #[derive(Clone, Copy)]
@@ -152,7 +154,7 @@ fn number(r: Reader, store: &mut [u32], index: &mut [u32], marks: &mut [u32]) ->
         Phase::Numbered | Phase::Literal => literal(r, store, index, marks),
         Phase::Hint => hinted(r, store, index, marks),
         Phase::Forgotten => forgotten(r, store, index, marks),
-        Phase::LetterD | Phase::End => refused(r, Reason::Format),
+        Phase::LetterD | Phase::End | Phase::Other(_) => refused(r, Reason::Format),
     }
 }
 

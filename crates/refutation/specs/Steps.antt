@@ -1,9 +1,9 @@
 -- What each step of the checker that has no loop answers, and what it leaves in the arrays lent to it. A refused step leaves them.
-use Rattle.std.specs.Prelude.{ℕ, ◌+◌, ◌-◌, ◌%◌, ◌^◌, true, false, cond, not, List, length, ◌==◌, nat_le, nat_lt, slice_index, slice_index_or, slice_set}
+use Rattle.std.specs.Prelude.{ℕ, zero, ◌+◌, ◌-◌, ◌%◌, ◌^◌, true, false, cond, not, List, length, ◌==◌, nat_le, nat_lt, slice_index, slice_index_or, slice_set}
 use Rattle.std.specs.Prelude.{Option, None, Some}
 use Rattle.model.specs.Lists.{stop}
 use Rattle.refutation.specs.declared.Reason.{Reason}
-use Rattle.refutation.specs.declared.Reason.TheVariants.{StoreFull, NumberTooLarge, NoSuchVariable, NoSuchClause, HintNotUnit, NotImplied, TooManyLines, Format, ValueTooLarge, NegativeHint, NoRoomForABlock, EndsEarly}
+use Rattle.refutation.specs.declared.Reason.TheVariants.{StoreFull, NumberTooLarge, NoSuchVariable, NoSuchClause, HintNotUnit, NotImplied, TooManyLines, Format, ValueTooLarge, NegativeHint, NoRoomForABlock, EndsEarly, Other}
 use Rattle.refutation.specs.declared.State.{State}
 
 -- ---- a reason's number
@@ -21,6 +21,12 @@ reason_number ValueTooLarge = 9
 reason_number NegativeHint = 10
 reason_number NoRoomForABlock = 11
 reason_number EndsEarly = 12
+reason_number (Other n) = n
+
+-- what a state keeps of it: by the number 0 nothing is refused
+abbrev pub refusal_for : Reason → Option Reason
+refusal_for (Other zero) = None
+refusal_for why = Some why
 
 -- ---- the first state, and a refused one
 
@@ -29,7 +35,7 @@ first_state = record { refusal = None; refuted = false; proved = false; id = 0; 
 
 unfoldable pub refused_for : State → Reason → State
 refused_for s why = record {
-  refusal = Some why;
+  refusal = refusal_for why;
   refuted = s.refuted;
   proved = s.proved;
   id = s.id;

@@ -1,10 +1,9 @@
 // A refutation, step by step: clauses in a lent store, a new one only where stored ones imply it by the hints given for it.
 #![tactic(auto)]
 
-ghost use Rattle.std.specs.Prelude.{◌≡◌, ℕ, ◌+◌, ◌-◌, ◌≤◌, Bool, false, T, List, length, replicate};
+ghost use Rattle.std.specs.Prelude.{None, ◌≡◌, ℕ, ◌+◌, ◌-◌, ◌≤◌, Bool, false, T, List, length, replicate};
 ghost use Rattle.refutation.specs.Sound.{flipped, some_true, stored_true, begun_true, Falsified, Says, Holds, Keeps, Appended, Begun};
-ghost use Rattle.std.specs.Prelude.{Some, None};
-ghost use Rattle.refutation.specs.Steps.{reason_number, first_state, refused_for, after_put, store_after_put, marks_after_put, after_commit, store_after_commit, index_after_commit, given, places_at, after_forget, index_after_forget};
+ghost use Rattle.refutation.specs.Steps.{reason_number, refusal_for, first_state, refused_for, after_put, store_after_put, marks_after_put, after_commit, store_after_commit, index_after_commit, given, places_at, after_forget, index_after_forget};
 
 // Why a certificate is refused: by a step, by a line's form, by the clauses' text, by its end.
 #[derive(Clone, Copy, PartialEq, Eq)]
@@ -21,10 +20,12 @@ pub enum Reason {
     NegativeHint,
     NoRoomForABlock,
     EndsEarly,
+    // by a number that has no name
+    Other(u32),
 }
 
 impl Reason {
-    // Its number, from 1 on, by which it is told.
+    // Its number, by which it is told: from 1 on, in the order above, or its own.
     pub fn number(self) -> u32
         ensures { result ≡ reason_number self }
     {
@@ -41,6 +42,7 @@ impl Reason {
             Reason::NegativeHint => 10,
             Reason::NoRoomForABlock => 11,
             Reason::EndsEarly => 12,
+            Reason::Other(n) => n,
         }
     }
 }
@@ -124,13 +126,23 @@ fn scan_clause(store: &[u32], c: usize, marks: &[u32], stamp: u32) -> Found
     scan(store, b, b + n, marks, stamp)
 }
 
+// What a state keeps of a reason: by the number 0 nothing is refused.
+fn refusal_for(why: Reason) -> Option<Reason>
+    ensures { result ≡ refusal_for why }
+{
+    match why {
+        Reason::Other(0) => None,
+        _ => Some(why),
+    }
+}
+
 pub fn refuse(s: State, why: Reason) -> State
     ensures holds { (a : List Bool) (store index marks : List ℕ) → Holds a s store index marks → Holds a result store index marks }
-    ensures refusal_value { result.refusal ≡ Some why }
+    ensures refusal_value { result.refusal ≡ refusal_for why }
     ensures value { result ≡ refused_for s why }
 {
     State {
-        refusal: Some(why),
+        refusal: refusal_for(why),
         ..s
     }
 }

@@ -1,15 +1,15 @@
 -- A table by its fields: what a change of a place makes of each, rules that read and write two of them alone, and the table that four lists make. Assumes nothing.
 use mathlib.Core.Path.{◌≡◌, refl, sym, ap, ap₂, ◌∙◌}
-use Prim.Native.Nat.{ℕ, zero, suc, ◌-◌}
+use Prim.Native.Nat.{ℕ, zero, suc, ◌-◌, ◌<◌}
 use native.Mathlib.Omega.{arith}
 use mathlib.Core.List.{List, [], ◌∷◌, map}
-use lib.ListN.{length, get_or}
+use lib.ListN.{length, get_or, set}
 use Rattle.model.specs.declared.Group.{Group}
 use Rattle.model.specs.Lists.{on_place}
 use Rattle.model.specs.Model.{zero_group, group_at}
 use Rattle.model.specs.Propagate.{run}
 use Rattle.model.proofs.Lists.{All}
-use Rattle.table.specs.Table.{zipped, fixed_of, possible_of, lows, highs}
+use Rattle.table.specs.Table.{group, zipped, fixed_of, possible_of, lows, highs}
 
 -- ---- a field
 
@@ -127,3 +127,28 @@ zipped_again (x ∷ f) (y ∷ p) (z ∷ l) (u ∷ h) [] h₁ a = refl
 zipped_again (x ∷ f) (y ∷ p) (z ∷ l) (u ∷ h) (z₁ ∷ l₁) [] a = refl
 zipped_again (x ∷ f) (y ∷ p) (z ∷ l) (u ∷ h) (z₁ ∷ l₁) (u₁ ∷ h₁) a =
     ap {B = List Group} (λ t. record { fixed = x; possible = y; low = z₁; high = u₁ } ∷ t) (zipped_again f p l h l₁ h₁ (omega arith))
+
+-- what is read
+pub zipped-at : (f p l h : List ℕ) (i : ℕ) → i < length (zipped f p l h)
+    → get_or (zipped f p l h) i zero_group ≡ group (get_or f i 0) (get_or p i 0) (get_or l i 0) (get_or h i 0)
+unfolding zipped
+zipped-at [] p l h i k = absurd (omega arith)
+zipped-at (a ∷ f) [] l h i k = absurd (omega arith)
+zipped-at (a ∷ f) (b ∷ p) [] h i k = absurd (omega arith)
+zipped-at (a ∷ f) (b ∷ p) (c ∷ l) [] i k = absurd (omega arith)
+zipped-at (a ∷ f) (b ∷ p) (c ∷ l) (d ∷ h) zero k = refl
+zipped-at (a ∷ f) (b ∷ p) (c ∷ l) (d ∷ h) (suc i) k = zipped-at f p l h i (omega arith)
+
+-- a store to each
+pub zipped-set : (f p l h : List ℕ) (i a b c d : ℕ)
+    → zipped (set f i a) (set p i b) (set l i c) (set h i d) ≡ on_place i (λ g. group a b c d) (zipped f p l h)
+unfolding zipped
+zipped-set [] p l h i a b c d = refl
+zipped-set (x ∷ f) [] l h zero a b c d = refl
+zipped-set (x ∷ f) [] l h (suc i) a b c d = refl
+zipped-set (x ∷ f) (y ∷ p) [] h zero a b c d = refl
+zipped-set (x ∷ f) (y ∷ p) [] h (suc i) a b c d = refl
+zipped-set (x ∷ f) (y ∷ p) (z ∷ l) [] zero a b c d = refl
+zipped-set (x ∷ f) (y ∷ p) (z ∷ l) [] (suc i) a b c d = refl
+zipped-set (x ∷ f) (y ∷ p) (z ∷ l) (u ∷ h) zero a b c d = refl
+zipped-set (x ∷ f) (y ∷ p) (z ∷ l) (u ∷ h) (suc i) a b c d = ap {B = List Group} (λ t. group x y z u ∷ t) (zipped-set f p l h i a b c d)

@@ -1,7 +1,7 @@
 -- Laws of decimal texts, digit by digit and four at a time, and of terms' texts. Assumes nothing.
 use mathlib.Core.Path.{◌≡◌, ap, sym, ◌∙◌}
 use mathlib.Core.List.{List, [], ◌∷◌, ◌++◌, append_assoc}
-use Prim.Native.Nat.{ℕ, ◌+◌, ◌-◌, ◌/◌, ◌%◌, ◌≤◌, ◌<◌}
+use Prim.Native.Nat.{ℕ, ◌+◌, ◌-◌, ◌*◌, ◌/◌, ◌%◌, ◌≤◌, ◌<◌}
 use native.Mathlib.Omega.{arith}
 use borrow.Author.Tests.{le-leb, lt-leb}
 use lib.ListN.{length, replicate, length-append, length-replicate}
@@ -56,6 +56,29 @@ four-length v h k = ap length (four-digits v h k)
 
 pub more-length : (v : ℕ) → 10000 ≤ v → length (decimal v) ≡ length (decimal (v / 10000)) + 4
 more-length v h = ap length (more-digits v h) ∙ length-append (decimal (v / 10000)) (last_four (v % 10000))
+
+-- ---- four digits at once, as `write_four` has them
+
+-- the pairs of digits side by side, the tens of both, and the digits as the bytes of a word
+
+pub high_is : (v : ℕ) → v < 10000 → v * 5243 / 524288 ≡ v / 100
+high_is v h = omega arith
+
+pub pairs_are : (v : ℕ) → v < 10000 → v * 65536 - v * 5243 / 524288 * 6553599 ≡ v / 100 + v % 100 * 65536
+pairs_are v h = omega (arith, high_is v h)
+
+abbrev tens : ℕ → ℕ
+tens x = x % 16 + x / 65536 % 16 * 65536
+
+pub tens_are : (h l : ℕ) → h < 100 → l < 100 → tens ((h + l * 65536) * 103 / 1024) ≡ h / 10 + l / 10 * 65536
+tens_are h l p q =
+    let a : h * 103 / 1024 ≡ h / 10 = omega arith in
+    let b : l * 103 / 1024 ≡ l / 10 = omega arith in
+    let x : (h + l * 65536) * 103 / 1024 ≡ h / 10 + l * 412 * 16 = omega (arith, a) in
+    let low : (h / 10 + l * 412 * 16) % 16 ≡ h / 10 = omega arith in
+    let high : (h / 10 + l * 412 * 16) / 65536 ≡ l / 10 = omega (arith, b) in
+    let small : l / 10 % 16 ≡ l / 10 = omega arith in
+    rw (x, low, high, small)
 
 -- ---- fields
 

@@ -5,4 +5,4 @@ use Rattle.refutation.proofs.refuse.Goals as goal
 
 pub returns : goal.returns
 unfolding refused_for
-returns c = record { holds = λ a store index marks h. h; refusal_value = refl; value = refl }
+returns c = let e = c.refusal_for.ensures in record { holds = λ a store index marks h. h; refusal_value = e; value = rw e refl }
