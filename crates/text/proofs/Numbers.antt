@@ -80,6 +80,38 @@ tens_are h l p q =
     let small : l / 10 % 16 ≡ l / 10 = omega arith in
     rw (x, low, high, small)
 
+abbrev word : ℕ → ℕ
+word v =
+    let pairs = v * 65536 - v * 5243 / 524288 * 6553599 in
+    pairs * 256 - tens (pairs * 103 / 1024) * 2559 + 808464432
+
+digits_are : (h l : ℕ) → h < 100 → l < 100
+    → (h + l * 65536) * 256 - (h / 10 + l / 10 * 65536) * 2559 + 808464432 ≡ (48 + h / 10) + (48 + h % 10) * 256 + (48 + l / 10) * 65536 + (48 + l % 10) * 16777216
+digits_are h l p q = omega arith
+
+word-is : (v : ℕ) → v < 10000 → word v ≡ (48 + v / 10 / 10 / 10 % 10) + (48 + v / 10 / 10 % 10) * 256 + (48 + v / 10 % 10) * 65536 + (48 + v % 10) * 16777216
+word-is v h =
+    let a : v / 100 / 10 ≡ v / 10 / 10 / 10 % 10 = omega arith in
+    let b : v / 100 % 10 ≡ v / 10 / 10 % 10 = omega arith in
+    let c : v % 100 / 10 ≡ v / 10 % 10 = omega arith in
+    let d : v % 100 % 10 ≡ v % 10 = omega arith in
+    rw (pairs_are v h, tens_are (v / 100) (v % 100) (omega arith) (omega arith))
+    (digits_are (v / 100) (v % 100) (omega arith) (omega arith) ∙ rw (a, b, c, d))
+
+bytes_are : (a b c d : ℕ) → a < 256 → b < 256 → c < 256 → d < 256 → {w : ℕ} → w ≡ a + b * 256 + c * 65536 + d * 16777216
+    → (w % 256) ∷ (w / 256 % 256) ∷ (w / 65536 % 256) ∷ (w / 16777216) ∷ [] ≡ a ∷ b ∷ c ∷ d ∷ []
+bytes_are a b c d p q r s {w} e =
+    let i : w % 256 ≡ a = omega arith in
+    let j : w / 256 ≡ b + (c + d * 256) * 256 = omega arith in
+    let k : w / 65536 ≡ c + d * 256 = omega arith in
+    let l : w / 16777216 ≡ d = omega arith in
+    let m : (b + (c + d * 256) * 256) % 256 ≡ b = omega arith in
+    let n : (c + d * 256) % 256 ≡ c = omega arith in
+    rw (i, j, k, l, m, n)
+
+pub word_bytes : (v : ℕ) → v < 10000 → (word v % 256) ∷ (word v / 256 % 256) ∷ (word v / 65536 % 256) ∷ (word v / 16777216) ∷ [] ≡ last_four v
+word_bytes v h = bytes_are _ _ _ _ (omega arith) (omega arith) (omega arith) (omega arith) (word-is v h)
+
 -- ---- fields
 
 module _ (v : ℕ) where
